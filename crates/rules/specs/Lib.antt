@@ -1,0 +1,15 @@
+pub mod Bytes
+pub mod Utf8
+pub mod Tokens
+pub mod Numbers
+pub mod Lexing
+pub mod Lines
+pub mod Variables
+pub mod Fields
+pub mod Records
+pub mod Reading
+pub mod Reader
+pub mod Listing
+pub mod Export
+pub mod Pclist
+pub mod Demand3
