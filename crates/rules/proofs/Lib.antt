@@ -1,0 +1,9 @@
+pub mod BytesLaws
+pub mod Ranks
+pub mod RanksLaws
+pub mod ExpandLaws
+pub mod PassesLaws
+pub mod ResolveLaws
+pub mod WriterLaws
+pub mod Lengths
+pub mod LimitEdges
