@@ -1,4 +1,4 @@
--- Laws of `expand`: it sums the parts up to the first reference without a value, and tests the sum. Assumes noName.
+-- Laws of `expand`: it sums the parts up to the first reference without a value, and tests the sum. Assumes nothing.
 use Prim.Native.Nat.{ℕ, _<_, _≤_}
 use mathlib.Core.Path.{_≡_, refl, ap, ap₂, sym, _∙_}
 use mathlib.Core.List.{List, [], _∷_, _++_, append-nil, append-assoc}
@@ -85,7 +85,7 @@ expand-is vals v (ref n j ∷ ps) h = go (foundAt vals j) refl (λ w h′. expan
         expand-some vals v n j ps u q ∙ grow v u (total vals ps) (stopAt vals ps) _ (λ h′. ih (v ++ u) h′)
         ∙ sym (ap₂ (λ (w : List ℕ) (e : Option Token). finish (v ++ w) e) (total-some vals n j ps u q) (stopAt-some vals n j ps u q))
 
--- what each reading of `expand` says of the sum
+-- what each answer of `expand` says of the sum
 abbrev pub View : Found → List Piece → Expansion → Type 0
 View vals ps large = limit < length (total vals ps)
 View vals ps (missing n) = (length (total vals ps) ≤ limit) × (stopAt vals ps ≡ some n)

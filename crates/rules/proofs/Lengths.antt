@@ -1,4 +1,4 @@
--- The passes on lengths alone, as code holds them: 0 for no value, one more than the length for a value. They go as the passes on values. Assumes noName.
+-- The passes on lengths alone, as code holds them: 0 for no value, one more than the length for a value. They go as the passes on values. Assumes nothing.
 use Prim.Native.Nat.{ℕ, zero, suc, _+_}
 use mathlib.Core.Path.{_≡_, refl, ap, sym, _∙_}
 use mathlib.Core.Bool.{Bool, true, false}
@@ -203,7 +203,7 @@ unfolding entries entry
 entries-none zero = refl
 entries-none (suc n) = ap {B = List ℕ} (λ l. 0 ∷ l) (entries-none n)
 
--- the passes on lengths reading as the passes on values
+-- the passes on lengths answer as the passes on values
 pub resolve-lens : (rules : List (List Piece)) → resolveLens rules ≡ settlesOf (resolve rules)
 unfolding resolveLens resolve
 resolve-lens rules = rw (← entries-none (length rules)) (passes-lens (suc (length rules)) rules (replicate (length rules) none))

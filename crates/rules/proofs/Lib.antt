@@ -7,3 +7,8 @@ pub mod ResolveLaws
 pub mod WriterLaws
 pub mod Lengths
 pub mod LimitEdges
+pub mod TableLaws
+pub mod LinesLaws
+pub mod Demand3Laws
+pub mod Stronger
+pub mod FieldsLaws

@@ -1,4 +1,4 @@
--- Document 01, "Both sides of each edge", the cases at the limit: decided on lengths, so that no list of 67,108,864 bytes is built. Assumes noName.
+-- Document 01, "Both sides of each edge", the cases at the limit: decided on lengths, so that no list of 67,108,864 bytes is built. Assumes nothing.
 use Prim.Native.Nat.{ℕ, zero, suc}
 use mathlib.Core.Path.{_≡_, refl, sym, ap, _∙_}
 use mathlib.Core.List.{List, [], _∷_, _++_}

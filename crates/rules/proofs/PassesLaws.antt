@@ -1,4 +1,4 @@
--- Laws of the passes: what they find is a value, each pass that goes on finds one more, and the last leaves no name with a value. Assumes noName.
+-- Laws of the passes: what they find is a value, each pass that goes on finds one more, and the last leaves no name with a value. Assumes nothing.
 use Prim.Native.Nat.{ℕ, zero, suc, _<_, _≤_, _+_}
 use mathlib.Core.Path.{_≡_, refl, ap, ap₂, sym, _∙_, subst₂}
 use mathlib.Core.Logic.{_⊎_, inl, inr}

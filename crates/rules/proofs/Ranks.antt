@@ -1,5 +1,5 @@
 -- Demand 3: what a value is, with no word of passes. A variable is its place in byte order; `rules` has each variable's parts by place.
--- Assumes noName.
+-- Assumes nothing.
 use Prim.Native.Nat.{ℕ, _<_}
 use mathlib.Core.Path.{_≡_}
 use mathlib.Core.List.{List, [], _∷_, _++_}
@@ -59,7 +59,7 @@ module _ (rules : List (List Piece)) where
     pub size : length vals ≡ length rules
     pub each : (j : ℕ) → j < length rules → (v : List ℕ) × Value rules j v × (foundAt vals j ≡ some v)
 
-  -- what an reading of `resolve` says
+  -- what an answer of `resolve` says
   abbrev pub Says : Resolved → Type 0
   Says (tooLarge j) = TooLargeAt j
   Says (lacks j n) = (TooLarge → ⊥) × LacksAt j n

@@ -1,4 +1,4 @@
--- Laws of values: a value is one; every name has a value exactly where a numbering exists. Assumes noName.
+-- Laws of values: a value is one; every name has a value exactly where a numbering exists. Assumes nothing.
 use Prim.Native.Nat.{ℕ, zero, suc, _<_, _+_}
 use mathlib.Core.Path.{_≡_, refl, ap, ap₂}
 use mathlib.Core.Logic.{_↔_}

@@ -1,4 +1,4 @@
--- Laws of `resolve`, by place: which names have values, and which reading is given. Assumes noName.
+-- Laws of `resolve`, by place: which names have values, and which answer is given. Assumes nothing.
 use Prim.Native.Nat.{ℕ, zero, suc, _<_, _≤_}
 use mathlib.Core.Path.{_≡_, refl, ap, ap₂, _∙_}
 use mathlib.Core.Logic.{_↔_, inl, inr}
@@ -14,7 +14,7 @@ use Rattle.rules.proofs.RanksLaws.{joined-one, numbered-iff}
 use Rattle.rules.proofs.ExpandLaws.{total, stopAt, total-some, total-none, stopAt-some, stopAt-none}
 use Rattle.rules.proofs.PassesLaws.{Front, Large, Settled, Ends, Left, resolve-ends, complete, upto, upto-one, not-large, left-is, none-some}
 
--- Whether a name has a value does not turn on the texts, and with all texts empty noName is too large: so the passes decide it.
+-- Whether a name has a value does not turn on the texts, and with all texts empty nothing is too large: so the passes decide it.
 data Bare : List Piece → List Piece → Type 0 where
   nil : Bare [] []
   text : {s : List ℕ} {ps qs : List Piece} → Bare ps qs → Bare (Piece.text s ∷ ps) (Piece.text [] ∷ qs)
@@ -50,7 +50,7 @@ module _ (rules : List (List Piece)) where
       let y = from-bare f b in
       (x .0 ++ y .0, Joined.ref (rw length-map at h) (x .1) (y .1))
 
-  -- with no texts noName is too large
+  -- with no texts nothing is too large
   front-bare : {ps qs : List Piece} {v : List ℕ} → Bare ps qs → Front (map bare rules) qs v → v ≡ []
   front-bare b Front.stop = refl
   front-bare (Bare.text b) (Front.text f) = front-bare b f

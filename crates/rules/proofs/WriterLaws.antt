@@ -1,4 +1,4 @@
--- Laws for writing values with a stack: what is left to write, a number that falls with each step, and how deep the stack goes. Assumes noName.
+-- Laws for writing values with a stack: what is left to write, a number that falls with each step, and how deep the stack goes. Assumes nothing.
 use Prim.Native.Nat.{ℕ, zero, suc, _<_, _≤_, _+_}
 use mathlib.Core.Path.{_≡_, refl, ap, ap₂}
 use mathlib.Core.List.{List, [], _∷_, _++_, append-assoc}

@@ -3,14 +3,16 @@
 -- both goes "too large", exactly when some name's value up to its first reference without a value is over 67,108,864 bytes." Assumes nothing.
 use Prim.Native.Nat.{ℕ, zero, suc, _<_}
 use mathlib.Core.Path.{_≡_}
+use mathlib.Core.Logic.{_↔_}
 use mathlib.Core.Bool.{true}
 use mathlib.Core.List.{List, [], _∷_, _++_}
 use mathlib.Core.Option.{Option, none, some}
 use lib.ListN.{length}
 use Rattle.rules.specs.Bytes.{before}
 use Rattle.rules.specs.Tokens.{Token}
+use Rattle.rules.specs.Numbers.{InVariable, UndefinedVariable, ContentTooLarge, Result, refused, ok}
 use Rattle.rules.specs.Lines.{Part, Assignment}
-use Rattle.rules.specs.Variables.{limit}
+use Rattle.rules.specs.Variables.{limit, Found, foundAt}
 
 -- a is the i-th assignment, in byte order of the names
 pub data At : List Assignment → ℕ → Assignment → Type 0 where
@@ -76,3 +78,12 @@ pub record Lacks (vs : List Assignment) (a : Assignment) (n : Token) : Type 0 wh
   pub smallest : (key : List ℕ) (b : Assignment) → Assigned vs key b → before key (a .key .text) ≡ true → HasValue vs key
   pub prefix : List ℕ
   pub first : Upto vs (a .value) prefix (some n)
+
+-- Demand 3, of the answer r that the variables vs get
+pub record Demand3 (vs : List Assignment) (r : Result Found) : Type 0 where
+  pub resolves : ((vals : Found) × (r ≡ ok vals)) ↔ ((TooLarge vs → ⊥) × ((num : List ℕ → ℕ) × Numbered vs num))
+  pub values : (vals : Found) → r ≡ ok vals → {key : List ℕ} {a : Assignment} (x : Assigned vs key a) → (v : List ℕ) × (foundAt vals (x .rank) ≡ some v) × Value vs key v
+  pub cycles : {key : List ℕ} {a : Assignment} → Assigned vs key a → Leads vs (a .value) key → HasValue vs key → ⊥
+  pub leading : {key to : List ℕ} {a : Assignment} → Assigned vs key a → Leads vs (a .value) to → HasValue vs key → HasValue vs to
+  pub too-large : ((k : Token) × (r ≡ refused (ContentTooLarge (InVariable k)))) ↔ TooLarge vs
+  pub lacking : (n k : Token) → (r ≡ refused (UndefinedVariable n (InVariable k))) ↔ ((TooLarge vs → ⊥) × ((a : Assignment) × (a .key ≡ k) × Lacks vs a n))
