@@ -12,3 +12,4 @@ pub mod LinesLaws
 pub mod Demand3Laws
 pub mod Stronger
 pub mod FieldsLaws
+pub mod LexingLaws
