@@ -195,3 +195,81 @@ lex-room (b ∷ bs) end g zero at k ts h e =
 pub tokens-room : (input : List ℕ) (ts : List Token) → tokens input ≡ ok ts → (length ts ≤ length input) × (length (poolOf ts) ≤ length input)
 unfolding tokens nothingYet
 tokens-room input ts e = let r = lex-room input 0 nothingYet 0 0 (length input) ts (omega arith) e in (omega (arith, r .0), omega (arith, r .1))
+
+-- a token with text in the pool stands where the texts before it end; another is one byte, and has no place
+abbrev pub Stands : Bool → ℕ → Token → Type 0
+Stands true end t = t .place ≡ end
+Stands false end t = (t .place ≡ 0) × ((b : ℕ) × (t .text ≡ b ∷ []))
+
+abbrev pub Placed : ℕ → List Token → Type 0
+Placed end [] = Unit {0}
+Placed end (t ∷ ts) = Stands (pooled t) end t × Placed (end + length (poolText t)) ts
+
+-- the text gathered, a token, and the rest
+placed-more : (end : ℕ) (g : Gathered) (t : Token) (us : List Token) (next : ℕ) → Stands (pooled t) (end + length (g .text)) t
+    → next ≡ end + length (g .text) + length (poolText t) → Placed next us → Placed end (flush end g ++ (t ∷ []) ++ us)
+unfolding flush textToken pooled token pick
+placed-more end g t us next h e p = go (g .text) h e
+  where
+    go : (s : List ℕ) → Stands (pooled t) (end + length s) t → next ≡ end + length s + length (poolText t) → Placed end (textToken end (g .source) s ++ (t ∷ []) ++ us)
+    go [] h′ e′ =
+        let z : end + 0 ≡ end = omega arith in
+        let y : next ≡ end + length (poolText t) = omega (arith, e′) in
+        (subst (λ (k : ℕ). Stands (pooled t) k t) z h′, subst (λ (k : ℕ). Placed k us) y p)
+    go (b ∷ bs) h′ e′ = (refl, (h′, subst (λ (k : ℕ). Placed k us) e′ p))
+
+flush-placed : (end : ℕ) (g : Gathered) → Placed end (flush end g)
+unfolding flush textToken pooled token
+flush-placed end g = go (g .text)
+  where
+    go : (s : List ℕ) → Placed end (textToken end (g .source) s)
+    go [] = tt
+    go (b ∷ bs) = (refl, tt)
+
+lex-placed : (bs : List ℕ) (end : ℕ) (g : Gathered) (skip at : ℕ) (ts : List Token) → lex end g skip at bs ≡ ok ts → Placed end ts
+unfolding lex nothingYet gather pooled token pick
+lex-placed [] end g skip at ts e = subst (λ (us : List Token). Placed end us) (ok-one e) (flush-placed end g)
+lex-placed (b ∷ bs) end g (suc skip) at ts e = lex-placed bs end g skip (suc at) ts e
+lex-placed (b ∷ bs) end g zero at ts e = go (lexeme (class b) b bs) refl (lexeme-fits (class b) b bs) (λ end′ g′ n us e′. lex-placed bs end′ g′ n (suc at) us e′)
+  where
+    more : (t : Token) (n next : ℕ) → ((end′ : ℕ) (g′ : Gathered) (n : ℕ) (us : List Token) → lex end′ g′ n (suc at) bs ≡ ok us → Placed end′ us)
+        → Stands (pooled t) (end + length (g .text)) t → next ≡ end + length (g .text) + length (poolText t)
+        → prepend (flush end g ++ (t ∷ [])) (lex next nothingYet n (suc at) bs) ≡ ok ts → Placed end ts
+    more t n next ih h l e′ =
+        let x = prepend-ok (flush end g ++ (t ∷ [])) (lex next nothingYet n (suc at) bs) ts e′ in
+        rw (x .2) (placed-more end g t (x .0) next h l (ih next nothingYet n (x .0) (x .1)))
+
+    go : (x : Lexeme) → lexeme (class b) b bs ≡ x → Fits bs x → ((end′ : ℕ) (g′ : Gathered) (n : ℕ) (us : List Token) → lex end′ g′ n (suc at) bs ≡ ok us → Placed end′ us) → Placed end ts
+    go (chars cs n) q f ih = ih end (gather g cs at) n ts (sym (lex-chars end g at b bs cs n q) ∙ e)
+    go (reference name n) q f ih =
+        more (token Variable name (end + length (g .text)) at) n (end + length (g .text) + length name) ih refl refl (sym (lex-reference end g at b bs name n q) ∙ e)
+    go (mark kind n) q f ih =
+        let u = unpooled kind (b ∷ []) 0 at (f .1) in
+        more (token kind (b ∷ []) 0 at) n (end + length (g .text)) ih (rw u (refl, (b, refl))) (rw u (omega arith)) (sym (lex-mark end g at b bs kind n q) ∙ e)
+    go (bad r) q f ih = absurd (refused-ok (sym (lex-bad end g at b bs r q) ∙ e))
+
+pub tokens-placed : (input : List ℕ) (ts : List Token) → tokens input ≡ ok ts → Placed 0 ts
+unfolding tokens
+tokens-placed input ts e = lex-placed input 0 nothingYet 0 0 ts e
+
+-- t is a token of the text
+pub data In : Token → List Token → Type 0 where
+  first : {t : Token} {ts : List Token} → In t (t ∷ ts)
+  later : {t u : Token} {ts : List Token} → In t ts → In t (u ∷ ts)
+
+in-pool : {t : Token} {ts : List Token} (end : ℕ) (before : List ℕ) → length before ≡ end → Placed end ts → In t ts → pooled t ≡ true
+    → take (length (t .text)) (drop (t .place) (before ++ poolOf ts)) ≡ t .text
+unfolding poolOf pick
+in-pool end before l p (In.first {t} {ts}) f =
+    let q : t .place ≡ end = rw f at (p .0) in
+    let x : poolText t ≡ t .text = rw f refl in
+    ap (λ (y : List ℕ). take (length (t .text)) (drop (t .place) (before ++ (y ++ poolOf ts)))) x
+    ∙ ap (λ (y : List ℕ). take (length (t .text)) y) (drop-at before (t .text ++ poolOf ts) (t .place) (l ∙ sym q)) ∙ take-at (t .text) (poolOf ts) (length (t .text)) refl
+in-pool end before l p (In.later {t} {u} {ts} m) f =
+    ap (λ (x : List ℕ). take (length (t .text)) (drop (t .place) x)) (sym (append-assoc before (poolText u) (poolOf ts)))
+    ∙ in-pool (end + length (poolText u)) (before ++ poolText u) (length-append before (poolText u) ∙ ap (λ (k : ℕ). k + length (poolText u)) l) (p .1) m f
+
+-- a name of a text stands in its pool at its own place
+pub name-in-pool : (input : List ℕ) (ts : List Token) → tokens input ≡ ok ts → (t : Token) → In t ts → pooled t ≡ true
+    → take (length (t .text)) (drop (t .place) (poolOf ts)) ≡ t .text
+name-in-pool input ts e t m f = in-pool 0 [] refl (tokens-placed input ts e) m f
