@@ -39,6 +39,7 @@ impl ByteClass {
 }
 
 pub const CLASS: [u8; 256] = [
+    // 0x00 to 0x0F
     0,
     0,
     0,
@@ -55,6 +56,7 @@ pub const CLASS: [u8; 256] = [
     9,
     0,
     0,
+    // 0x10 to 0x1F
     0,
     0,
     0,
@@ -71,6 +73,7 @@ pub const CLASS: [u8; 256] = [
     0,
     0,
     0,
+    // 0x20 to 0x2F
     3,
     0,
     7,
@@ -87,6 +90,7 @@ pub const CLASS: [u8; 256] = [
     0,
     1,
     0,
+    // 0x30 to 0x3F
     1,
     1,
     1,
@@ -103,6 +107,7 @@ pub const CLASS: [u8; 256] = [
     4,
     0,
     0,
+    // 0x40 to 0x4F
     0,
     1,
     1,
@@ -119,6 +124,7 @@ pub const CLASS: [u8; 256] = [
     1,
     1,
     1,
+    // 0x50 to 0x5F
     1,
     1,
     1,
@@ -135,6 +141,7 @@ pub const CLASS: [u8; 256] = [
     0,
     0,
     1,
+    // 0x60 to 0x6F
     0,
     1,
     1,
@@ -151,6 +158,7 @@ pub const CLASS: [u8; 256] = [
     1,
     1,
     1,
+    // 0x70 to 0x7F
     1,
     1,
     1,
@@ -167,6 +175,7 @@ pub const CLASS: [u8; 256] = [
     13,
     0,
     0,
+    // 0x80 to 0x8F
     0,
     0,
     0,
@@ -183,6 +192,7 @@ pub const CLASS: [u8; 256] = [
     0,
     0,
     0,
+    // 0x90 to 0x9F
     0,
     0,
     0,
@@ -199,6 +209,7 @@ pub const CLASS: [u8; 256] = [
     0,
     0,
     0,
+    // 0xA0 to 0xAF
     0,
     0,
     0,
@@ -215,6 +226,7 @@ pub const CLASS: [u8; 256] = [
     0,
     0,
     0,
+    // 0xB0 to 0xBF
     0,
     0,
     0,
@@ -231,6 +243,7 @@ pub const CLASS: [u8; 256] = [
     0,
     0,
     0,
+    // 0xC0 to 0xCF
     0,
     0,
     0,
@@ -247,6 +260,7 @@ pub const CLASS: [u8; 256] = [
     0,
     0,
     0,
+    // 0xD0 to 0xDF
     0,
     0,
     0,
@@ -263,6 +277,7 @@ pub const CLASS: [u8; 256] = [
     0,
     0,
     0,
+    // 0xE0 to 0xEF
     0,
     0,
     0,
@@ -279,6 +294,7 @@ pub const CLASS: [u8; 256] = [
     0,
     0,
     0,
+    // 0xF0 to 0xFF
     0,
     0,
     0,

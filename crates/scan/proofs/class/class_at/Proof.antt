@@ -4,23 +4,16 @@ use Rattle.scan.proofs.Classes.{class-in, class-past}
 use borrow.Author.Needs.{needs}
 use Rattle.scan.proofs.class.class_at.Statement.{statement}
 use Rattle.scan.proofs.class.class_at.Tie as tie
-use Rattle.scan.proofs.class.class_at.Reads as reads
-use Rattle.scan.proofs.class.class_at.Lts as lts
-use Rattle.scan.proofs.class.class_of.Reads as class-of-reads
 
--- src/class.rt:78:18
 shared-slice-read-class-of : tie.Need-shared-slice-read-class-of
 shared-slice-read-class-of c = search needs
 
--- src/class.rt:78:9
 class-of-requires : tie.Need-class-of-requires
 class-of-requires c κs = search needs
 
--- src/class.rt:74:1
 returns : tie.Need-returns
 returns c = c .class-of .ensures ∙ sym (class-in _ _ (c .before .before .if1 .taken))
 
--- src/class.rt:74:1
 returns-2 : tie.Need-returns-2
 returns-2 c = sym (class-past _ _ (c .if1 .left))
 

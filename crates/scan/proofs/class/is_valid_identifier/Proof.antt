@@ -6,15 +6,10 @@ use Rattle.scan.proofs.Classes.{test, tests}
 use borrow.Author.Needs.{needs}
 use Rattle.scan.proofs.class.is_valid_identifier.Statement.{statement}
 use Rattle.scan.proofs.class.is_valid_identifier.Tie as tie
-use Rattle.scan.proofs.class.is_valid_identifier.Reads as reads
-use Rattle.scan.proofs.class.is_valid_identifier.Lts as lts
-use Rattle.scan.proofs.class.class_of.Reads as class-of-reads
 
--- src/class.rt:70:5
 class-of-requires : tie.Need-class-of-requires
 class-of-requires c κs = search needs
 
--- src/class.rt:67:1
 returns : tie.Need-returns
 unfolding test classNumber
 returns c = rw (c .class-of .ensures) (sym (tests identifier (c .before .args .b)))
