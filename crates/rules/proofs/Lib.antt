@@ -13,3 +13,6 @@ pub mod Demand3Laws
 pub mod Stronger
 pub mod FieldsLaws
 pub mod LexingLaws
+pub mod ListingLaws
+pub mod Form
+pub mod RecordsLaws
