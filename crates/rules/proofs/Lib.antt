@@ -16,3 +16,4 @@ pub mod LexingLaws
 pub mod ListingLaws
 pub mod Form
 pub mod RecordsLaws
+pub mod RefusalLaws
