@@ -17,3 +17,4 @@ pub mod ListingLaws
 pub mod Form
 pub mod RecordsLaws
 pub mod RefusalLaws
+pub mod CallLaws
