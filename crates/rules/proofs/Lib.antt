@@ -18,3 +18,4 @@ pub mod Form
 pub mod RecordsLaws
 pub mod RefusalLaws
 pub mod CallLaws
+pub mod CallDemand3
