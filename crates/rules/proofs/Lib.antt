@@ -19,3 +19,5 @@ pub mod RecordsLaws
 pub mod RefusalLaws
 pub mod CallLaws
 pub mod CallDemand3
+pub mod Computed
+pub mod PTable
