@@ -85,7 +85,7 @@ cut-is bytes h l =
     let c : drop 4 bytes ≡ take 2 (drop 4 bytes) ++ drop 6 bytes = sym (take-append-drop 2 (drop 4 bytes)) ∙ ap (λ (x : List ℕ). take 2 (drop 4 bytes) ++ x) (drop-drop 2 4 bytes) in
     let d : drop 6 bytes ≡ take n (drop 6 bytes) ++ drop (6 + n) bytes = sym (take-append-drop n (drop 6 bytes)) ∙ ap (λ (x : List ℕ). take n (drop 6 bytes) ++ x) (drop-drop n 6 bytes) in
     let w : bytes ≡ take 4 bytes ++ (take 2 (drop 4 bytes) ++ (take n (drop 6 bytes) ++ drop (6 + n) bytes)) =
-        sym (take-append-drop 4 bytes) ∙ ap (λ (x : List ℕ). take 4 bytes ++ x) (c ∙ ap (λ (x : List ℕ). take 2 (drop 4 bytes) ++ x) d) in
+    sym (take-append-drop 4 bytes) ∙ ap (λ (x : List ℕ). take 4 bytes ++ x) (c ∙ ap (λ (x : List ℕ). take 2 (drop 4 bytes) ++ x) d) in
     w ∙ sym (append-assoc (take 4 bytes) (take 2 (drop 4 bytes) ++ take n (drop 6 bytes)) (drop (6 + n) bytes) ∙ ap (λ (x : List ℕ). take 4 bytes ++ x) (append-assoc (take 2 (drop 4 bytes)) (take n (drop 6 bytes)) (drop (6 + n) bytes)))
     ∙ ap (λ (x : List ℕ). x ++ drop (6 + n) bytes) (sym (ap (λ (x : List ℕ). x ++ (toLittle 2 (fromLittle (take 2 (drop 4 bytes))) ++ take n (drop 6 bytes))) a ∙ ap (λ (x : List ℕ). take 4 bytes ++ (x ++ take n (drop 6 bytes))) b))
 
@@ -212,6 +212,7 @@ module _ (fuel last due : ℕ) (bytes shown : List ℕ) (h : Octets bytes) where
           let z : prefixed (listingLine (r .kind) 4 (decimal (fromLittle (r .payload)))) (listingLines fuel (r .kind) (fromLittle (r .payload)) (r .rest)) ≡ some shown = rw g at (rw p at (rw f at (rw (q, listingLines) at e))) in
           let y = prefixed-inv (listingLine (r .kind) 4 (decimal (fromLittle (r .payload)))) (listingLines fuel (r .kind) (fromLittle (r .payload)) (r .rest)) shown z in
           a-list r t (says .0) (says .1) (says .2) (says .3) (eqb-true (length (r .payload)) 4 g) (y .0) (y .2) (ih (r .kind) (fromLittle (r .payload)) (r .rest) (y .0) (t .more) (y .1))
+
       placed : (r : Front) → Taken bytes r → eqb (length bytes) 0 ≡ false → front bytes ≡ some r → (x : Form) → form last due (r .kind) ≡ x → FormSays last due (r .kind) x → Parsed last due bytes shown
       placed r t q f Form.wrong p says = let z : none ≡ some shown = rw p at (rw f at (rw (q, listingLines) at e)) in absurd (none-some refl z)
       placed r t q f Form.argument p says =
@@ -224,15 +225,18 @@ module _ (fuel last due : ℕ) (bytes shown : List ℕ) (h : Octets bytes) where
           let y = prefixed-inv (listingLine (r .kind) (length (r .payload)) (r .payload)) (listingLines fuel (r .kind) 0 (r .rest)) shown z in
           a-string r t (says .0) (says .1) (says .2) (y .0) (y .2) (ih (r .kind) 0 (r .rest) (y .0) (t .more) (y .1))
       placed r t q f Form.list p says = listed r t q f p says (eqb (length (r .payload)) 4) refl
+
       fronted : eqb (length bytes) 0 ≡ false → (o : Option Front) → front bytes ≡ o → Parsed last due bytes shown
       fronted q none f = let z : none ≡ some shown = rw f at (rw (q, listingLines) at e) in absurd (none-some refl z)
       fronted q (some r) f = placed r (taken bytes r h f) q f (form last due (r .kind)) refl (form-says last due (r .kind))
+
       ended : eqb (length bytes) 0 ≡ true → (b : Bool) → eqb due 0 ≡ b → Parsed last due bytes shown
       ended q true d =
           let z : some [] ≡ some shown = rw d at (rw (q, listingLines) at e) in
           let w : [] ≡ shown = cc in
           at-end (eqb-true (length bytes) 0 q) (eqb-true due 0 d) (sym w)
       ended q false d = let z : none ≡ some shown = rw d at (rw (q, listingLines) at e) in absurd (none-some refl z)
+
       start : (b : Bool) → eqb (length bytes) 0 ≡ b → Parsed last due bytes shown
       start true q = ended q (eqb due 0) refl
       start false q = fronted q (front bytes) refl

@@ -107,6 +107,7 @@ field-only key ending ts = go (field 1 fieldKeys (key .text)) refl
     known : (f : ℕ) (b : Bool) → isString f ≡ b → field 1 fieldKeys (key .text) ≡ some f → Only OnLines (readField key ending ts)
     known f true p q = rw (q, readField) (rw p tt)
     known f false p q = rw (q, readField) (rw p (only-bind OnLines (listValue ts) (λ v. ok (Item.given f key (Template.list v))) (arguments-only ts noName false [] []) (λ v. tt)))
+
     go : (o : Option ℕ) → field 1 fieldKeys (key .text) ≡ o → Only OnLines (readField key ending ts)
     go none q = rw (q, readField) tt
     go (some f) q = known f (isString f) refl q
@@ -234,6 +235,7 @@ reading-variable input r v = (λ e. go e (file input) refl (file-only input), λ
         let p : afterVariables x vals ≡ refused r = sym (reading-resolved input x vals f q) ∙ e in
         let n : OnFields (stage r) = rw p at (fields-only x vals) in
         absurd (rw v at n)
+
     go : reading input ≡ refused r → (o : Result File) → file input ≡ o → Only OnLines o
         → (x : File) × (file input ≡ ok x) × (resolveVariables (x .variables) ≡ refused r)
     go e (refused s) f h =
