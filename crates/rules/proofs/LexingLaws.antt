@@ -92,7 +92,7 @@ lex-chars end g at b bs cs n q = rw (q, lex)
 
 pub lex-reference : (end : ℕ) (g : Gathered) (at b : ℕ) (bs name : List ℕ) (n : ℕ) → lexeme (class b) b bs ≡ reference name n
     → lex end g 0 at (b ∷ bs)
-      ≡ prepend (flush end g ++ (token Variable name (end + length (g .text)) at ∷ [])) (lex (end + length (g .text) + length name) nothingYet n (suc at) bs)
+    ≡ prepend (flush end g ++ (token Variable name (end + length (g .text)) at ∷ [])) (lex (end + length (g .text) + length name) nothingYet n (suc at) bs)
 unfolding lex
 lex-reference end g at b bs name n q = rw (q, lex)
 

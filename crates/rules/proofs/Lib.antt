@@ -13,3 +13,11 @@ pub mod Demand3Laws
 pub mod Stronger
 pub mod FieldsLaws
 pub mod LexingLaws
+pub mod ListingLaws
+pub mod Form
+pub mod RecordsLaws
+pub mod RefusalLaws
+pub mod CallLaws
+pub mod CallDemand3
+pub mod Computed
+pub mod PTable

@@ -10,9 +10,10 @@ use mathlib.Core.Option.{Option, none, some}
 use lib.ListN.{length}
 use Rattle.rules.specs.Bytes.{before}
 use Rattle.rules.specs.Tokens.{Token}
-use Rattle.rules.specs.Numbers.{InVariable, UndefinedVariable, ContentTooLarge, Result, refused, ok}
+use Rattle.rules.specs.Numbers.{InVariable, UndefinedVariable, ContentTooLarge, Result, refused, ok, details, number, detail}
 use Rattle.rules.specs.Lines.{Part, Assignment}
 use Rattle.rules.specs.Variables.{limit, Found, foundAt}
+use Rattle.rules.specs.Reader.{Outcome}
 
 -- a is the i-th assignment, in byte order of the names
 pub data At : List Assignment → ℕ → Assignment → Type 0 where
@@ -87,3 +88,13 @@ pub record Demand3 (vs : List Assignment) (r : Result Found) : Type 0 where
   pub leading : {key to : List ℕ} {a : Assignment} → Assigned vs key a → Leads vs (a .value) to → HasValue vs key → HasValue vs to
   pub too-large : ((k : Token) × (r ≡ refused (ContentTooLarge (InVariable k)))) ↔ TooLarge vs
   pub lacking : (n k : Token) → (r ≡ refused (UndefinedVariable n (InVariable k))) ↔ ((TooLarge vs → ⊥) × ((a : Assignment) × (a .key ≡ k) × Lacks vs a n))
+
+-- 15 or 16 for a variable: the detail's number is 0
+abbrev pub ForVariable : ℕ → Outcome → Type 0
+ForVariable n o = (number (o .answer) ≡ n) × (detail (o .answer) .value ≡ 0)
+
+-- Demand 3, of the outcome o of a whole call, where the lines of the text assign the variables vs: the three ways it can go
+pub record Demand3OfCall (vs : List Assignment) (o : Outcome) : Type 0 where
+  pub too-large : ForVariable 16 o ↔ TooLarge vs
+  pub lacking : (n k : Token) → ((number (o .answer) ≡ 15) × (detail (o .answer) ≡ details 0 n k)) ↔ ((TooLarge vs → ⊥) × ((a : Assignment) × (a .key ≡ k) × Lacks vs a n))
+  pub resolves : ((ForVariable 15 o → ⊥) × (ForVariable 16 o → ⊥)) ↔ ((TooLarge vs → ⊥) × ((num : List ℕ → ℕ) × Numbered vs num))
