@@ -2,11 +2,11 @@
 use Prim.Native.Nat.{ℕ, zero, suc, _+_, _*_, _%_, _≤_, _<_}
 use mathlib.Core.Path.{_≡_, refl, ap, sym, _∙_}
 use mathlib.Core.Bool.{Bool, true, false}
-use mathlib.Core.List.{List, [], _∷_, map}
+use mathlib.Core.List.{List, [], _∷_, _++_, map, append-assoc, append-nil}
 use native.Mathlib.Omega.{arith}
 use native.Mathlib.Decide.{decLt}
 use native.Mathlib.Numerals.{add-one}
-use lib.ListN.{length, take, drop, getD, set, drop-of-length-le}
+use lib.ListN.{length, take, drop, getD, set, drop-of-length-le, length-append}
 use lib.Seq.{getD-drop, getD-set-other, drop-cons}
 use lib.Dec.{leb}
 use borrow.Author.Tests.{lt-ltb, le-ltb, lt-leb, le-leb}
@@ -14,7 +14,7 @@ use Rattle.rules.specs.Bytes.{pick}
 use Rattle.rules.specs.Tokens.{Token, token, pooled, noName}
 use Rattle.scan.specs.Stores.{puts}
 use Rattle.scan.proofs.Stores.{getD-puts-below}
-use Rattle.tokens.specs.Entries.{fromEntry, decode, tokenAt, poolText, byteOf, kinds, kindAt, placeAt, sourceAt, byteAt, entryAt}
+use Rattle.tokens.specs.Entries.{entry, entries, fromEntry, decode, tokenAt, poolText, byteOf, kinds, kindAt, placeAt, sourceAt, byteAt, entryAt}
 
 pub length-decode : (count : ℕ) (ws pool : List ℕ) → length (decode count ws pool) ≡ count
 unfolding decode
@@ -215,3 +215,18 @@ token-cons count ws pool j h = rw (add-one, drop-cons (decode count ws pool) j n
 
 pub token-end : (count : ℕ) (ws pool : List ℕ) (j : ℕ) → count ≤ j → drop j (decode count ws pool) ≡ []
 token-end count ws pool j h = let k : length (decode count ws pool) ≤ j = omega (arith, length-decode count ws pool) in drop-of-length-le (decode count ws pool) k
+
+-- entries of tokens one after another
+pub entries-append : (ts us : List Token) → entries (ts ++ us) ≡ entries ts ++ entries us
+unfolding entries
+entries-append [] us = refl
+entries-append (t ∷ ts) us = rw (entries-append ts us, append-assoc)
+
+pub entries-one : (t : Token) → entries (t ∷ []) ≡ entry t
+unfolding entries
+entries-one t = append-nil (entry t)
+
+pub length-entries : (ts : List Token) → length (entries ts) ≡ 4 * length ts
+unfolding entries entry
+length-entries [] = refl
+length-entries (t ∷ ts) = omega (arith, length-append (entry t) (entries ts), length-entries ts)
