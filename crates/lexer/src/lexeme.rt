@@ -103,8 +103,8 @@ fn reference_at(text: &[u8], i: usize) -> Piece
     ensures { λ r. ⌜ Shows (now (text .entry)) i (afterBrace (drop (i + 2) (now (text .entry)))) (r .kind) (r .from) (r .len) (r .next) ⌝ }
 {
     let end = name_end(text, i + 2);
-    let c = class_at(text, end);
-    if c == ByteClass::CLOSE_BRACE {
+    let closing = class_at(text, end);
+    if closing == ByteClass::CLOSE_BRACE {
         return Piece {
             kind: TokenKind::VARIABLE,
             from: i + 2,
@@ -112,7 +112,7 @@ fn reference_at(text: &[u8], i: usize) -> Piece
             next: end + 1,
         };
     }
-    if c == ByteClass::PAST {
+    if closing == ByteClass::PAST {
         return Piece {
             kind: Piece::NOT_CLOSED,
             from: end,
@@ -166,8 +166,8 @@ pub fn lexeme_at(text: &[u8], i: usize) -> Piece
     requires { ⌜ i < length (now text) ⌝ }
     ensures { λ r. ⌜ Shows (now (text .entry)) i (lexemeAt (now (text .entry)) i) (r .kind) (r .from) (r .len) (r .next) ⌝ }
 {
-    let c = class_at(text, i);
-    if c < ByteClass::BLANK {
+    let first = class_at(text, i);
+    if first < ByteClass::BLANK {
         return Piece {
             kind: TokenKind::TEXT,
             from: i,
@@ -175,18 +175,18 @@ pub fn lexeme_at(text: &[u8], i: usize) -> Piece
             next: i + 1,
         };
     }
-    if c < ByteClass::BACKSLASH {
+    if first < ByteClass::BACKSLASH {
         return Piece {
-            kind: c as u32,
+            kind: first as u32,
             from: i,
             len: 1,
             next: i + 1,
         };
     }
-    if c == ByteClass::BACKSLASH {
+    if first == ByteClass::BACKSLASH {
         return backslash_at(text, i);
     }
-    if c == ByteClass::LINE_END {
+    if first == ByteClass::LINE_END {
         let next = maybe_consume_second_newline(text, i);
         return Piece {
             kind: TokenKind::NEW_LINE,
@@ -195,10 +195,10 @@ pub fn lexeme_at(text: &[u8], i: usize) -> Piece
             next,
         };
     }
-    if c == ByteClass::DOLLAR {
+    if first == ByteClass::DOLLAR {
         return dollar_at(text, i);
     }
-    if c == ByteClass::HASH {
+    if first == ByteClass::HASH {
         let next = comment_end(text, i + 1);
         return Piece {
             kind: TokenKind::TEXT,
