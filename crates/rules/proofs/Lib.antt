@@ -21,3 +21,4 @@ pub mod CallLaws
 pub mod CallDemand3
 pub mod Computed
 pub mod PTable
+pub mod Promises
