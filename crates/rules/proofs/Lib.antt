@@ -22,3 +22,4 @@ pub mod Computed
 pub mod PTable
 pub mod Promises
 pub mod LimitEdges
+pub mod Cases
