@@ -23,3 +23,4 @@ pub mod PTable
 pub mod Promises
 pub mod LimitEdges
 pub mod Cases
+pub mod SourceCases
