@@ -24,3 +24,5 @@ pub mod Promises
 pub mod LimitEdges
 pub mod Cases
 pub mod SourceCases
+pub mod TokenLaws
+pub mod NameLaws

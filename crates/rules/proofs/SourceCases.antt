@@ -35,9 +35,9 @@ unfolding called
 references = refl
 
 pub marks : tokens (bytes "=:'\"\\\t\n") ≡ ok (
-  token 4 (bytes "=") 0 0 ∷ token 5 (bytes ":") 0 1 ∷ token 6 (bytes "'") 0 2 ∷ token 7 (bytes "\"") 0 3 ∷ token 8 (bytes "\\") 0 4
-      ∷ token 3 (bytes "\t") 0 5 ∷ token 9 (bytes "\n") 0 6 ∷ []
-)
+    token 4 (bytes "=") 0 0 ∷ token 5 (bytes ":") 0 1 ∷ token 6 (bytes "'") 0 2 ∷ token 7 (bytes "\"") 0 3 ∷ token 8 (bytes "\\") 0 4
+    ∷ token 3 (bytes "\t") 0 5 ∷ token 9 (bytes "\n") 0 6 ∷ []
+    )
 unfolding called
 marks = refl
 
