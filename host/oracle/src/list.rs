@@ -1,0 +1,138 @@
+//! The fixed list of texts and the Rust's answers, made from the generators.
+
+use crate::answer::{Answer, answer};
+use crate::generators::{GENERATORS, Generator, Scale};
+use std::collections::BTreeMap;
+use std::fmt::Write;
+
+/// A text of the list with its answer.
+pub struct Entry {
+    /// The generator that made the text.
+    pub generator: &'static str,
+    /// The text.
+    pub text: Vec<u8>,
+    /// The Rust's answer.
+    pub answer: Answer,
+}
+
+/// How many texts the list takes from each generator, at most. All of `document` are taken.
+const SHARES: &[(&str, usize)] = &[
+    ("document", 1_000),
+    ("short", 230),
+    ("contexts", 480),
+    ("pairs", 200),
+    ("utf8", 180),
+    ("not-utf8", 60),
+    ("lines", 150),
+    ("grammar", 260),
+    ("systems", 120),
+    ("limit", 40),
+    ("chains", 18),
+    ("lengths", 12),
+    ("files", 140),
+];
+
+/// The first bytes of `answers.bin`.
+pub const MAGIC: &[u8; 8] = b"cabbage1";
+
+/// Makes the list.
+pub fn build() -> Vec<Entry> {
+    let mut entries = Vec::new();
+    for generator in GENERATORS {
+        let share = SHARES.iter().find(|(name, _)| *name == generator.name);
+        let (_, most) = share.expect("every generator has a share");
+        entries.extend(choose(generator, *most));
+    }
+    entries
+}
+
+/// Takes texts of all numbers that a generator's answers have, as evenly as there are such texts, and among those of
+/// one number evenly from first to last.
+fn choose(generator: &Generator, most: usize) -> Vec<Entry> {
+    let mut answers = Vec::new();
+    generator.each(Scale::Small, &mut |text| answers.push(answer(text)));
+    let mut there: BTreeMap<u8, usize> = BTreeMap::new();
+    for answer in &answers {
+        *there.entry(answer.number()).or_default() += 1;
+    }
+    let taken = divide(&there, most);
+
+    let mut seen: BTreeMap<u8, usize> = BTreeMap::new();
+    let mut chosen = Vec::new();
+    let mut rest = answers.into_iter();
+    generator.each(Scale::Small, &mut |text| {
+        let answer = rest.next().expect("the same texts as before");
+        let number = answer.number();
+        let before = *seen.entry(number).or_default();
+        seen.insert(number, before + 1);
+        // The text is taken where the count of taken ones, spread evenly over all, grows.
+        let (taken, all) = (taken[&number], there[&number]);
+        if (before + 1) * taken / all > before * taken / all {
+            chosen.push(Entry {
+                generator: generator.name,
+                text: text.to_vec(),
+                answer,
+            });
+        }
+    });
+    chosen
+}
+
+/// Hands out `most` places one by one in turn to the numbers that have texts left.
+fn divide(there: &BTreeMap<u8, usize>, most: usize) -> BTreeMap<u8, usize> {
+    let mut taken: BTreeMap<u8, usize> = there.keys().map(|number| (*number, 0)).collect();
+    let mut left = most;
+    loop {
+        let before = left;
+        for (number, count) in &mut taken {
+            if 0 < left && *count < there[number] {
+                *count += 1;
+                left -= 1;
+            }
+        }
+        if left == before {
+            return taken;
+        }
+    }
+}
+
+/// The list as `answers.bin`.
+pub fn to_binary(entries: &[Entry]) -> Vec<u8> {
+    let mut bytes = MAGIC.to_vec();
+    let count = u32::try_from(entries.len()).expect("a short list");
+    bytes.extend_from_slice(&count.to_le_bytes());
+    for entry in entries {
+        let length = u16::try_from(entry.text.len()).expect("texts have at most 65,535 bytes");
+        bytes.extend_from_slice(&length.to_le_bytes());
+        bytes.extend_from_slice(&entry.text);
+        let answer = entry.answer.encode();
+        let length = u32::try_from(answer.len()).expect("answers are short");
+        bytes.extend_from_slice(&length.to_le_bytes());
+        bytes.extend_from_slice(&answer);
+    }
+    bytes
+}
+
+/// The list as `answers.txt`: for people, one line each. Long texts and records are shown in part.
+pub fn to_text(entries: &[Entry]) -> String {
+    const SHOWN: usize = 1_400;
+    let mut text = String::new();
+    for (index, entry) in entries.iter().enumerate() {
+        let shown = &entry.text[..entry.text.len().min(SHOWN)];
+        let mut answer = format!("{:?}", entry.answer);
+        let mut end = "";
+        if 2 * SHOWN < answer.len() {
+            answer.truncate(SHOWN);
+            end = "..";
+        }
+        let cut = if shown.len() < entry.text.len() { ".." } else { "" };
+        let (generator, length) = (entry.generator, entry.text.len());
+        writeln!(
+            text,
+            "{index} {generator} {length} \"{}\"{cut} => {answer}{end}",
+            shown.escape_ascii()
+        )
+        .expect("a string takes all");
+    }
+    text
+}
