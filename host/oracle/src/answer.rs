@@ -89,6 +89,14 @@ impl Answer {
     }
 }
 
+impl Answer {
+    /// A number that tells answers apart: FNV-1a with 64 bits over [`Answer::encode`].
+    pub fn mark(&self) -> u64 {
+        let start = 0xcbf2_9ce4_8422_2325;
+        self.encode().iter().fold(start, |mark, byte| (mark ^ u64::from(*byte)).wrapping_mul(0x100_0000_01b3))
+    }
+}
+
 impl fmt::Debug for Answer {
     /// One line, as in `answers/answers.txt`.
     fn fmt(&self, f: &mut fmt::Formatter<'_>) -> fmt::Result {
@@ -115,12 +123,7 @@ impl fmt::Debug for Answer {
 pub fn answer(text: &[u8]) -> Answer {
     match std::str::from_utf8(text) {
         Ok(text) => canonical(text),
-        Err(_) => Answer::Refused(Refusal {
-            number: 4,
-            value: 0,
-            first: Vec::new(),
-            second: Vec::new(),
-        }),
+        Err(_) => Answer::Refused(Refusal { number: 4, value: 0, first: Vec::new(), second: Vec::new() }),
     }
 }
 
@@ -160,12 +163,7 @@ fn refusal(error: &ParseError) -> Refusal {
             panic!("upstream says what document 01 calls impossible: {error:?}")
         }
     };
-    Refusal {
-        number,
-        value,
-        first: first.into_bytes(),
-        second: second.into_bytes(),
-    }
+    Refusal { number, value, first: first.into_bytes(), second: second.into_bytes() }
 }
 
 /// The kind and plain text of a token, from upstream's way to show it.
@@ -213,11 +211,7 @@ fn plain_text(shown: &str) -> String {
             None => panic!("unknown token {shown}"),
         }
     }
-    assert_eq!(
-        format!("{plain:?}"),
-        shown,
-        "the token's text could not be recovered"
-    );
+    assert_eq!(format!("{plain:?}"), shown, "the token's text could not be recovered");
     plain
 }
 
@@ -312,10 +306,7 @@ impl LongRecords {
                 sum += u32::from(*byte);
                 sum_of_sums += u32::from(*byte) * times;
             }
-            let grown = self
-                .sum
-                .wrapping_mul(piece.len() as u64)
-                .wrapping_add(u64::from(sum_of_sums));
+            let grown = self.sum.wrapping_mul(piece.len() as u64).wrapping_add(u64::from(sum_of_sums));
             self.sum_of_sums = self.sum_of_sums.wrapping_add(grown);
             self.sum = self.sum.wrapping_add(u64::from(sum));
         }
@@ -337,14 +328,7 @@ mod tests {
         let mut long = LongRecords::default();
         long.add(&bytes[..300]);
         long.add(&bytes[300..]);
-        assert_eq!(
-            long,
-            LongRecords {
-                length: 1000,
-                sum,
-                sum_of_sums
-            }
-        );
+        assert_eq!(long, LongRecords { length: 1000, sum, sum_of_sums });
     }
 
     #[test]

@@ -37,12 +37,7 @@ const KEPT: usize = 10;
 
 /// Compares a reader with the Rust on all of a generator's texts.
 pub fn compare(generator: &Generator, scale: Scale, subject: Subject) -> Report {
-    let mut report = Report {
-        generator: generator.name,
-        cases: 0,
-        different: 0,
-        first: Vec::new(),
-    };
+    let mut report = Report { generator: generator.name, cases: 0, different: 0, first: Vec::new() };
     generator.each(scale, &mut |text| {
         let expected = answer(text);
         let found = subject(text);
@@ -50,12 +45,7 @@ pub fn compare(generator: &Generator, scale: Scale, subject: Subject) -> Report 
             report.different += 1;
             if report.first.len() < KEPT {
                 let index = report.cases;
-                report.first.push(Difference {
-                    index,
-                    text: text.to_vec(),
-                    expected,
-                    found,
-                });
+                report.first.push(Difference { index, text: text.to_vec(), expected, found });
             }
         }
         report.cases += 1;

@@ -109,18 +109,9 @@ pub const CASES: &[Case] = &[
     case("Name: ${é", Refused(6, 0xe9, "", "")),
     case("x\n${a", Refused(5, 0, "", "")),
     case("${ ${", Refused(6, 32, "", "")),
-    case(
-        "Name: a\rURL: b\r\nVersion: c\n\rRequires: d\n\n\r\r\nConflicts: e",
-        {
-            Fields(&[
-                Text(1, "a"),
-                Text(3, "b"),
-                Text(4, "c"),
-                Text(5, "d"),
-                Text(7, "e"),
-            ])
-        },
-    ),
+    case("Name: a\rURL: b\r\nVersion: c\n\rRequires: d\n\n\r\r\nConflicts: e", {
+        Fields(&[Text(1, "a"), Text(3, "b"), Text(4, "c"), Text(5, "d"), Text(7, "e")])
+    }),
     // Lines.
     case(" \t\n\n  ", Fields(&[])),
     case("\t Name \t:\t  x", Fields(&[Text(1, "x")])),
@@ -151,19 +142,13 @@ pub const CASES: &[Case] = &[
     case("Name=1\nName: ${Name}", Fields(&[Text(1, "1")])),
     case("Name:   ", Fields(&[Text(1, "")])),
     case("Name:   \n", Fields(&[Text(1, "")])),
-    case(
-        "Name: a = b: 'c' \"d\" \\e",
-        Fields(&[Text(1, "a = b: 'c' \"d\" \\e")]),
-    ),
+    case("Name: a = b: 'c' \"d\" \\e", Fields(&[Text(1, "a = b: 'c' \"d\" \\e")])),
     case("a=x \nName: <${a}>", Fields(&[Text(1, "<x>")])),
     case("Name: <${a}>\na=x ", Fields(&[Text(1, "<x >")])),
     // Lists.
     case("Libs: a b\tc", Fields(&[List(9, &["a", "b", "c"])])),
     case("Libs: a\\ b", Fields(&[List(9, &["a b"])])),
-    case(
-        "Libs: \\'a \\\"b \\\\c",
-        Fields(&[List(9, &["'a", "\"b", "\\c"])]),
-    ),
+    case("Libs: \\'a \\\"b \\\\c", Fields(&[List(9, &["'a", "\"b", "\\c"])])),
     case("Libs: \\ab\\ c", Fields(&[List(9, &["ab c"])])),
     case("Libs: a\\b c", Fields(&[List(9, &["ab", "c"])])),
     case("Libs: 'a\\'b'", Fields(&[List(9, &["a'b"])])),
@@ -176,10 +161,7 @@ pub const CASES: &[Case] = &[
     case("Libs: a=b:c", Fields(&[List(9, &["a=b:c"])])),
     case("v=1 '2\nLibs: ${v}", Fields(&[List(9, &["1 '2"])])),
     case("Libs: 'a\nb'", Refused(14, 0, "", "")),
-    case(
-        "Libs:\nCflags:\nLibs.private:",
-        Fields(&[List(8, &[]), List(9, &[]), List(10, &[])]),
-    ),
+    case("Libs:\nCflags:\nLibs.private:", Fields(&[List(8, &[]), List(9, &[]), List(10, &[])])),
     // All fields, in the order of their numbers whatever the order of the lines.
     case(
         "Libs.private: j\nLibs: i\nCflags: h\nConflicts: g\nRequires.private: f\nRequires: e\nVersion: d\nURL: c\n\
@@ -267,11 +249,5 @@ pub fn limit_cases() -> Vec<LimitCase> {
         ("a=${u}x\nu=${v20}\nw=${v20}x", refused(16, 0, "", "w")),
     ];
     let base = doubled();
-    cases
-        .into_iter()
-        .map(|(last, expected)| LimitCase {
-            text: format!("{base}{last}"),
-            expected,
-        })
-        .collect()
+    cases.into_iter().map(|(last, expected)| LimitCase { text: format!("{base}{last}"), expected }).collect()
 }

@@ -68,27 +68,24 @@ fn choose(generator: &Generator, most: usize) -> Vec<Entry> {
         // The text is taken where the count of taken ones, spread evenly over all, grows.
         let (taken, all) = (taken[&number], there[&number]);
         if (before + 1) * taken / all > before * taken / all {
-            chosen.push(Entry {
-                generator: generator.name,
-                text: text.to_vec(),
-                answer,
-            });
+            chosen.push(Entry { generator: generator.name, text: text.to_vec(), answer });
         }
     });
     chosen
 }
 
-/// Hands out `most` places one by one in turn to the numbers that have texts left.
+/// Hands out `most` places in turn to the numbers that have texts left: four at a time to 0 and 4, which say most, one
+/// to each other.
 fn divide(there: &BTreeMap<u8, usize>, most: usize) -> BTreeMap<u8, usize> {
     let mut taken: BTreeMap<u8, usize> = there.keys().map(|number| (*number, 0)).collect();
     let mut left = most;
     loop {
         let before = left;
         for (number, count) in &mut taken {
-            if 0 < left && *count < there[number] {
-                *count += 1;
-                left -= 1;
-            }
+            let turn = if [0, 4].contains(number) { 4 } else { 1 };
+            let more = turn.min(left).min(there[number] - *count);
+            *count += more;
+            left -= more;
         }
         if left == before {
             return taken;
@@ -113,6 +110,30 @@ pub fn to_binary(entries: &[Entry]) -> Vec<u8> {
     bytes
 }
 
+/// The texts of `answers.bin`, in order, without their answers.
+///
+/// # Panics
+///
+/// If the bytes are not in that form.
+pub fn texts(binary: &[u8]) -> Vec<&[u8]> {
+    let mut rest = binary.strip_prefix(MAGIC).expect("a list of answers");
+    let mut take = |count: usize| {
+        let (front, back) = rest.split_at(count);
+        rest = back;
+        front
+    };
+    let number = |bytes: &[u8]| bytes.iter().rev().fold(0, |sum, byte| sum << 8 | usize::from(*byte));
+    let count = number(take(4));
+    let mut texts = Vec::new();
+    for _ in 0..count {
+        let length = number(take(2));
+        texts.push(take(length));
+        let length = number(take(4));
+        take(length);
+    }
+    texts
+}
+
 /// The list as `answers.txt`: for people, one line each. Long texts and records are shown in part.
 pub fn to_text(entries: &[Entry]) -> String {
     const SHOWN: usize = 1_400;
@@ -127,12 +148,8 @@ pub fn to_text(entries: &[Entry]) -> String {
         }
         let cut = if shown.len() < entry.text.len() { ".." } else { "" };
         let (generator, length) = (entry.generator, entry.text.len());
-        writeln!(
-            text,
-            "{index} {generator} {length} \"{}\"{cut} => {answer}{end}",
-            shown.escape_ascii()
-        )
-        .expect("a string takes all");
+        writeln!(text, "{index} {generator} {length} \"{}\"{cut} => {answer}{end}", shown.escape_ascii())
+            .expect("a string takes all");
     }
     text
 }

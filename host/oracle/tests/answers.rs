@@ -9,15 +9,9 @@ fn the_committed_list_is_up_to_date() {
     let directory = Path::new(env!("CARGO_MANIFEST_DIR")).join("answers");
     let entries = list::build();
     let binary = std::fs::read(directory.join("answers.bin")).unwrap();
-    assert!(
-        binary == list::to_binary(&entries),
-        "answers.bin differs: see answers/README.md"
-    );
+    assert!(binary == list::to_binary(&entries), "answers.bin differs: see answers/README.md");
     let text = std::fs::read_to_string(directory.join("answers.txt")).unwrap();
-    assert!(
-        text == list::to_text(&entries),
-        "answers.txt differs: see answers/README.md"
-    );
+    assert!(text == list::to_text(&entries), "answers.txt differs: see answers/README.md");
 }
 
 /// Reads the file by its description alone, as the program that replays it does.
@@ -31,12 +25,7 @@ fn the_form_is_as_described() {
         rest = back;
         front
     };
-    let number = |bytes: &[u8]| {
-        bytes
-            .iter()
-            .rev()
-            .fold(0, |sum, byte| sum * 256 + u64::from(*byte))
-    };
+    let number = |bytes: &[u8]| bytes.iter().rev().fold(0, |sum, byte| sum * 256 + u64::from(*byte));
     assert_eq!(take(8), b"cabbage1");
     let count = number(take(4));
     assert!((1_900..=2_200).contains(&count), "{count} texts");

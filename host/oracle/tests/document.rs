@@ -6,14 +6,8 @@ use oracle::{Answer, Records, Refusal, canonical};
 /// A record as document 01 words it: 4 bytes of length, 2 of kind, the payload.
 fn record(kind: u16, payload: &[u8]) -> Vec<u8> {
     let n = payload.len();
-    let mut bytes = vec![
-        n as u8,
-        (n >> 8) as u8,
-        (n >> 16) as u8,
-        (n >> 24) as u8,
-        kind as u8,
-        (kind >> 8) as u8,
-    ];
+    let mut bytes =
+        vec![n as u8, (n >> 8) as u8, (n >> 16) as u8, (n >> 24) as u8, kind as u8, (kind >> 8) as u8];
     bytes.extend_from_slice(payload);
     bytes
 }
@@ -35,12 +29,7 @@ fn records(fields: &[Field]) -> Vec<u8> {
 }
 
 fn refused(number: u8, value: u32, first: &str, second: &str) -> Answer {
-    Answer::Refused(Refusal {
-        number,
-        value,
-        first: first.into(),
-        second: second.into(),
-    })
+    Answer::Refused(Refusal { number, value, first: first.into(), second: second.into() })
 }
 
 #[test]
@@ -91,10 +80,7 @@ fn records_by_hand() {
     };
     assert_eq!(bytes("Name: a "), b"\x02\0\0\0\x01\0a ");
     assert_eq!(bytes("Libs: ''"), b"\x04\0\0\0\x09\0\0\0\0\0");
-    assert_eq!(
-        bytes("e=\nLibs: ${e}"),
-        b"\x04\0\0\0\x09\0\x01\0\0\0\0\0\0\0\x0b\0"
-    );
+    assert_eq!(bytes("e=\nLibs: ${e}"), b"\x04\0\0\0\x09\0\x01\0\0\0\0\0\0\0\x0b\0");
     assert_eq!(
         bytes("Libs.private: ab\nURL: \nCflags:"),
         b"\0\0\0\0\x03\0\x04\0\0\0\x08\0\0\0\0\0\x04\0\0\0\x0a\0\x01\0\0\0\x02\0\0\0\x0b\0ab"
@@ -107,9 +93,7 @@ fn records_by_hand() {
 /// The sample's listing, made from the Rust's records by the document's rule.
 #[test]
 fn sample_listing() {
-    let Answer::Accepted(Records::Exact(bytes)) = canonical(SAMPLE) else {
-        panic!("the sample is refused")
-    };
+    let Answer::Accepted(Records::Exact(bytes)) = canonical(SAMPLE) else { panic!("the sample is refused") };
     let mut listing = format!("pc 0 {}\n", bytes.len());
     let mut rest = bytes.as_slice();
     while !rest.is_empty() {

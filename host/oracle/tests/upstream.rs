@@ -18,9 +18,8 @@ fn upstream_files_are_unchanged() {
     }
     // And the crate has no other source file.
     let sources = std::fs::read_dir(directory.join("src")).unwrap();
-    let mut there: Vec<String> = sources
-        .map(|entry| format!("src/{}", entry.unwrap().file_name().to_str().unwrap()))
-        .collect();
+    let mut there: Vec<String> =
+        sources.map(|entry| format!("src/{}", entry.unwrap().file_name().to_str().unwrap())).collect();
     there.sort();
     listed.retain(|name| name.starts_with("src/"));
     listed.sort();

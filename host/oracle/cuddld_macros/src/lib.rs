@@ -55,10 +55,7 @@ fn display_impl(it: &Enum) -> Result<String, String> {
             (Some(text), false) => format!("::core::write!(formatter, {text})"),
             (None, true) => "::core::fmt::Display::fmt(f0, formatter)".to_owned(),
             _ => {
-                return Err(format!(
-                    "`{}` needs either #[display(..)] or #[transparent]",
-                    variant.name
-                ));
+                return Err(format!("`{}` needs either #[display(..)] or #[transparent]", variant.name));
             }
         };
         arms += &format!("{pattern} => {body},");
@@ -124,14 +121,8 @@ fn read_enum(input: TokenStream) -> Result<Enum, String> {
             else {
                 return Err("expected an enum without parameters".to_owned());
             };
-            let variants = parts(&body)
-                .into_iter()
-                .map(read_variant)
-                .collect::<Result<_, _>>()?;
-            return Ok(Enum {
-                name: name.to_string(),
-                variants,
-            });
+            let variants = parts(&body).into_iter().map(read_variant).collect::<Result<_, _>>()?;
+            return Ok(Enum { name: name.to_string(), variants });
         }
     }
     Err("only enums are supported".to_owned())
@@ -139,12 +130,7 @@ fn read_enum(input: TokenStream) -> Result<Enum, String> {
 
 fn read_variant(tokens: Vec<TokenTree>) -> Result<Variant, String> {
     let (attributes, rest) = split_attributes(tokens);
-    let mut variant = Variant {
-        name: String::new(),
-        display: None,
-        transparent: false,
-        fields: Vec::new(),
-    };
+    let mut variant = Variant { name: String::new(), display: None, transparent: false, fields: Vec::new() };
     match rest.as_slice() {
         [TokenTree::Ident(name)] => variant.name = name.to_string(),
         [TokenTree::Ident(name), TokenTree::Group(body)] if body.delimiter() == Delimiter::Parenthesis => {
@@ -161,10 +147,7 @@ fn read_variant(tokens: Vec<TokenTree>) -> Result<Variant, String> {
         }
     }
     if variant.transparent && variant.fields.len() != 1 {
-        return Err(format!(
-            "`{}` is transparent and needs exactly one field",
-            variant.name
-        ));
+        return Err(format!("`{}` is transparent and needs exactly one field", variant.name));
     }
     Ok(variant)
 }
@@ -172,10 +155,7 @@ fn read_variant(tokens: Vec<TokenTree>) -> Result<Variant, String> {
 fn read_field(tokens: Vec<TokenTree>) -> Field {
     let (attributes, rest) = split_attributes(tokens);
     let ty = TokenStream::from_iter(rest).to_string();
-    Field {
-        ty,
-        source: attributes.iter().any(|attribute| attribute.name == "source"),
-    }
+    Field { ty, source: attributes.iter().any(|attribute| attribute.name == "source") }
 }
 
 /// The parts of a group between its commas, those inside `<` and `>` aside.

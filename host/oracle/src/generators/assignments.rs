@@ -5,12 +5,7 @@ use super::{Scale, Sink};
 use std::fmt::Write;
 
 /// The last lines of a system: nothing, or fields that use its names.
-const ENDS: [&str; 4] = [
-    "",
-    "Name: ${a}${c}",
-    "Libs: ${b} x${a} ${n}",
-    "Cflags: ${n}\nURL: ${b}\n",
-];
+const ENDS: [&str; 4] = ["", "Name: ${a}${c}", "Libs: ${b} x${a} ${n}", "Cflags: ${n}\nURL: ${b}\n"];
 
 pub(super) fn systems(seed: u64, scale: Scale, sink: Sink) {
     let parts = ["x", "${a}", "${b}", "${c}", "${n}"];
@@ -46,9 +41,7 @@ pub(super) fn systems(seed: u64, scale: Scale, sink: Sink) {
         }
     }
     // Random systems of four names, each with up to four parts.
-    let parts = [
-        "x", "yy", "${a}", "${b}", "${c}", "${d}", "${n}", "${a}", "${b}", "${c}", "${d}",
-    ];
+    let parts = ["x", "yy", "${a}", "${b}", "${c}", "${d}", "${n}", "${a}", "${b}", "${c}", "${d}"];
     let mut random = Random::new(seed);
     for _ in 0..if scale == Scale::Small { 2_000 } else { 200_000 } {
         let mut text = String::new();
@@ -82,18 +75,9 @@ pub(super) fn limit(seed: u64, scale: Scale, sink: Sink) {
     ];
     let mut random = Random::new(seed);
     for _ in 0..if scale == Scale::Small { 100 } else { 3_000 } {
-        let names: &[&str] = if random.below(2) == 0 {
-            &["p", "q", "r"]
-        } else {
-            &["p", "q", "r", "s"]
-        };
-        let (prefix, falling) = random.pick(&[
-            &("k", false),
-            &("k", true),
-            &("z", false),
-            &("z", true),
-            &("q.", false),
-        ]);
+        let names: &[&str] = if random.below(2) == 0 { &["p", "q", "r"] } else { &["p", "q", "r", "s"] };
+        let (prefix, falling) =
+            random.pick(&[&("k", false), &("k", true), &("z", false), &("z", true), &("q.", false)]);
         let top = if *falling { 0 } else { 5 };
         let mut text = base(prefix, *falling);
         for (at, name) in names.iter().enumerate() {
@@ -120,11 +104,8 @@ pub(super) fn limit(seed: u64, scale: Scale, sink: Sink) {
 
 pub(super) fn chains(seed: u64, scale: Scale, sink: Sink) {
     let mut random = Random::new(seed);
-    let lengths: &[usize] = if scale == Scale::Small {
-        &[2, 5, 17, 70]
-    } else {
-        &[2, 3, 5, 9, 17, 33, 70, 200, 700, 2_500]
-    };
+    let lengths: &[usize] =
+        if scale == Scale::Small { &[2, 5, 17, 70] } else { &[2, 3, 5, 9, 17, 33, 70, 200, 700, 2_500] };
     for length in lengths {
         for order in ["rising", "falling", "mixed"] {
             // The name of each link, from the one with a plain value to the last.

@@ -27,11 +27,8 @@ fn whole_text(random: &mut Random) -> String {
             8 => comment(random, &mut text),
             _ => text += random.pick(&["", " ", "\t", "  "]),
         }
-        text += if random.below(8) == 0 {
-            random.pick(&["\n", "\r\n", "\r", "\n\r", "\n\n"])
-        } else {
-            usual_end
-        };
+        text +=
+            if random.below(8) == 0 { random.pick(&["\n", "\r\n", "\r", "\n\r", "\n\n"]) } else { usual_end };
     }
     if random.below(3) == 0 {
         text.truncate(text.trim_end_matches(['\n', '\r']).len());
@@ -43,11 +40,8 @@ const NAMES: [&str; 9] = ["a", "b", "c", "d", "prefix", "lib.dir", "A_1", "0", "
 
 fn assignment(random: &mut Random, text: &mut String) {
     blanks(random, text);
-    *text += if random.below(25) == 0 {
-        random.pick(&["a-b", "é", "a$x", "a\\#"])
-    } else {
-        random.pick(&NAMES)
-    };
+    *text +=
+        if random.below(25) == 0 { random.pick(&["a-b", "é", "a$x", "a\\#"]) } else { random.pick(&NAMES) };
     blanks(random, text);
     text.push('=');
     value(random, text);
@@ -89,18 +83,7 @@ fn value(random: &mut Random, text: &mut String) {
     for _ in 0..random.below(8) {
         match random.below(16) {
             0..=3 => {
-                *text += random.pick(&[
-                    "x",
-                    "-lfoo",
-                    "1.2",
-                    "-I/usr",
-                    ">=",
-                    "é",
-                    "\u{1f600}",
-                    ",",
-                    "{",
-                    "}",
-                ])
+                *text += random.pick(&["x", "-lfoo", "1.2", "-I/usr", ">=", "é", "\u{1f600}", ",", "{", "}"])
             }
             4..=6 => blanks(random, text),
             7..=9 => {

@@ -77,9 +77,8 @@ fn words(symbols: &[&[u8]], most: usize, sink: Sink) {
 }
 
 pub(super) fn short(_seed: u64, scale: Scale, sink: Sink) {
-    let symbols: [&[u8]; 14] = [
-        b"a", b" ", b"\t", b"\n", b"\r", b"=", b":", b"'", b"\"", b"\\", b"$", b"{", b"}", b"#",
-    ];
+    let symbols: [&[u8]; 14] =
+        [b"a", b" ", b"\t", b"\n", b"\r", b"=", b":", b"'", b"\"", b"\\", b"$", b"{", b"}", b"#"];
     words(&symbols, if scale == Scale::Small { 4 } else { 6 }, sink);
 }
 
@@ -89,16 +88,12 @@ pub(super) fn contexts(_seed: u64, scale: Scale, sink: Sink) {
         b"${v}",
     ];
     let mut text = Vec::new();
-    words(
-        &symbols,
-        if scale == Scale::Small { 3 } else { 4 },
-        &mut |piece| {
-            for context in CONTEXTS {
-                context.around(piece, &mut text);
-                sink(&text);
-            }
-        },
-    );
+    words(&symbols, if scale == Scale::Small { 3 } else { 4 }, &mut |piece| {
+        for context in CONTEXTS {
+            context.around(piece, &mut text);
+            sink(&text);
+        }
+    });
 }
 
 pub(super) fn pairs(_seed: u64, scale: Scale, sink: Sink) {
@@ -127,12 +122,7 @@ pub(super) fn utf8(_seed: u64, scale: Scale, sink: Sink) {
     let mut text = Vec::new();
     for code in CODE_POINTS {
         let c = char::from_u32(code).expect("a code point");
-        for piece in [
-            format!("{c}"),
-            format!("{c}{c}"),
-            format!("a{c}"),
-            format!("{c} "),
-        ] {
+        for piece in [format!("{c}"), format!("{c}{c}"), format!("a{c}"), format!("{c} ")] {
             for context in CONTEXTS {
                 context.around(piece.as_bytes(), &mut text);
                 sink(&text);
@@ -140,11 +130,7 @@ pub(super) fn utf8(_seed: u64, scale: Scale, sink: Sink) {
         }
     }
     let step = if scale == Scale::Small { 97 } else { 1 };
-    let places = [
-        Context("${a", "}"),
-        Context("a ", "=1"),
-        Context("Libs: \\", "b c"),
-    ];
+    let places = [Context("${a", "}"), Context("a ", "=1"), Context("Libs: \\", "b c")];
     for c in ('\0'..=char::MAX).step_by(step) {
         for place in &places {
             place.around(c.encode_utf8(&mut [0; 4]).as_bytes(), &mut text);

@@ -118,11 +118,7 @@ const FILES: &[&str] = &[
 ];
 
 pub(super) fn files(_seed: u64, scale: Scale, sink: Sink) {
-    let (step, replacements) = if scale == Scale::Small {
-        (7, "")
-    } else {
-        (1, "\\$'\"#=: \n\r{}-")
-    };
+    let (step, replacements) = if scale == Scale::Small { (7, "") } else { (1, "\\$'\"#=: \n\r{}-") };
     for file in FILES {
         sink(file.as_bytes());
         let places: Vec<(usize, char)> = file.char_indices().collect();

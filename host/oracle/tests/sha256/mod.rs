@@ -26,11 +26,7 @@ fn root_bits(number: u64, root: u32) -> u32 {
     let (mut low, mut high) = (0u128, 1u128 << 40);
     while low + 1 < high {
         let middle = (low + high) / 2;
-        if middle.pow(root) <= bound {
-            low = middle
-        } else {
-            high = middle
-        }
+        if middle.pow(root) <= bound { low = middle } else { high = middle }
     }
     (low & 0xffff_ffff) as u32
 }
@@ -48,30 +44,20 @@ fn digest(message: &[u8]) -> [u32; 8] {
     padded.extend_from_slice(&(message.len() as u64 * 8).to_be_bytes());
 
     for block in padded.chunks(64) {
-        let mut words: Vec<u32> = block
-            .chunks(4)
-            .map(|four| u32::from_be_bytes(four.try_into().unwrap()))
-            .collect();
+        let mut words: Vec<u32> =
+            block.chunks(4).map(|four| u32::from_be_bytes(four.try_into().unwrap())).collect();
         for at in 16..64 {
             let (a, b) = (words[at - 15], words[at - 2]);
             let small0 = a.rotate_right(7) ^ a.rotate_right(18) ^ (a >> 3);
             let small1 = b.rotate_right(17) ^ b.rotate_right(19) ^ (b >> 10);
-            words.push(
-                words[at - 16]
-                    .wrapping_add(small0)
-                    .wrapping_add(words[at - 7])
-                    .wrapping_add(small1),
-            );
+            words.push(words[at - 16].wrapping_add(small0).wrapping_add(words[at - 7]).wrapping_add(small1));
         }
         let [mut a, mut b, mut c, mut d, mut e, mut f, mut g, mut h] = state;
         for at in 0..64 {
             let big1 = e.rotate_right(6) ^ e.rotate_right(11) ^ e.rotate_right(25);
             let choice = (e & f) ^ (!e & g);
-            let one = h
-                .wrapping_add(big1)
-                .wrapping_add(choice)
-                .wrapping_add(constants[at])
-                .wrapping_add(words[at]);
+            let one =
+                h.wrapping_add(big1).wrapping_add(choice).wrapping_add(constants[at]).wrapping_add(words[at]);
             let big0 = a.rotate_right(2) ^ a.rotate_right(13) ^ a.rotate_right(22);
             let majority = (a & b) ^ (a & c) ^ (b & c);
             let two = big0.wrapping_add(majority);
@@ -86,10 +72,7 @@ fn digest(message: &[u8]) -> [u32; 8] {
 
 #[test]
 fn examples_of_the_standard() {
-    assert_eq!(
-        hex(b"abc"),
-        "ba7816bf8f01cfea414140de5dae2223b00361a396177a9cb410ff61f20015ad"
-    );
+    assert_eq!(hex(b"abc"), "ba7816bf8f01cfea414140de5dae2223b00361a396177a9cb410ff61f20015ad");
     assert_eq!(
         hex(b"abcdbcdecdefdefgefghfghighijhijkijkljklmklmnlmnomnopnopq"),
         "248d6a61d20638b8e5c026930c3e6039a33ce45964ff2167f6ecedd419db06c1"
