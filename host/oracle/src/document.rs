@@ -139,6 +139,8 @@ pub const CASES: &[Case] = &[
     case("Libs.Private: 'x", Refused(12, 0, "Libs.Private", "")),
     case("Name: x\nName: y", Refused(13, 0, "Name", "")),
     case("Libs: x\nLibs: y", Refused(13, 0, "Libs", "")),
+    case("Url: x", Refused(12, 0, "Url", "")),
+    case("Name: x\nName=y", Fields(&[Text(1, "x")])),
     case("Name=1\nName: ${Name}", Fields(&[Text(1, "1")])),
     case("Name:   ", Fields(&[Text(1, "")])),
     case("Name:   \n", Fields(&[Text(1, "")])),
@@ -190,6 +192,15 @@ pub const CASES: &[Case] = &[
     case("Libs.private: ${m}\nCflags: ${n}", Refused(15, 8, "n", "")),
     case("Requires.private: ${m}\nConflicts: ${n}", Refused(15, 6, "m", "")),
     case("Libs.private: ${m}", Refused(15, 10, "m", "")),
+    case("Description: ${n}\nName: ${m}", Refused(15, 1, "m", "")),
+    case("URL: ${n}\nDescription: ${m}", Refused(15, 2, "m", "")),
+    case("Version: ${n}\nURL: ${m}", Refused(15, 3, "m", "")),
+    case("Requires: ${n}\nVersion: ${m}", Refused(15, 4, "m", "")),
+    case("Requires.private: ${n}\nRequires: ${m}", Refused(15, 5, "m", "")),
+    case("Conflicts: ${n}\nRequires.private: ${m}", Refused(15, 6, "m", "")),
+    case("Cflags: ${n}\nConflicts: ${m}", Refused(15, 7, "m", "")),
+    case("Libs: ${n}\nCflags: ${m}", Refused(15, 8, "m", "")),
+    case("Libs.private: ${n}\nLibs: ${m}", Refused(15, 9, "m", "")),
     case("a=1\nName: ${a}${}", Refused(15, 1, "", "")),
 ];
 
@@ -238,6 +249,8 @@ pub fn limit_cases() -> Vec<LimitCase> {
         ("w=${v20}${none}x", refused(15, 0, "none", "w")),
         ("a=${v20}x${none}", refused(16, 0, "", "a")),
         ("a=${none}\nw=${v20}x", refused(16, 0, "", "w")),
+        // `a` waits for `v20`; in the second pass, which finds nothing, it is too large. Without that pass, 15 for `A`.
+        ("A=${none}\na=${v20}x${none}", refused(16, 0, "", "a")),
         ("a=${none}\nName: ${v20}x", refused(15, 0, "none", "a")),
         ("Name: ${v20}x${none}", refused(16, 1, "", "")),
         ("Name: ${none}${v20}x", refused(15, 1, "none", "")),

@@ -61,8 +61,8 @@ pub const GENERATORS: &[Generator] = &[
         name: "document",
         about: "the cases of document 01, those around the limit too",
         seed: 0,
-        small: 126,
-        full: 126,
+        small: 138,
+        full: 138,
         make: whole::document,
     },
     Generator {
@@ -133,7 +133,7 @@ pub const GENERATORS: &[Generator] = &[
         name: "limit",
         about: "systems of three and four names with values around 67,108,864 bytes",
         seed: 67_108_864,
-        small: 100,
+        small: 60,
         full: 3_000,
         make: assignments::limit,
     },
@@ -167,19 +167,20 @@ pub const GENERATORS: &[Generator] = &[
 mod tests {
     use super::*;
 
+    /// `survey` does the same for the two generators that are left out here at full scale.
     #[test]
     fn counts_are_as_stated_and_texts_within_the_limit() {
         let mut wrong = Vec::new();
         for generator in GENERATORS {
             for scale in [Scale::Small, Scale::Full] {
+                if scale == Scale::Full && ["short", "utf8"].contains(&generator.name) {
+                    continue;
+                }
+                let utf8 = !["pairs", "not-utf8"].contains(&generator.name);
                 let mut count = 0;
                 generator.each(scale, &mut |text| {
                     assert!(text.len() <= 65_535);
-                    assert!(
-                        ["pairs", "not-utf8"].contains(&generator.name) || std::str::from_utf8(text).is_ok(),
-                        "{} makes texts that are not UTF-8",
-                        generator.name
-                    );
+                    assert!(!utf8 || std::str::from_utf8(text).is_ok(), "{}: {text:?}", generator.name);
                     count += 1;
                 });
                 if count != generator.count(scale) {

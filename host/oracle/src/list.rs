@@ -22,13 +22,13 @@ const SHARES: &[(&str, usize)] = &[
     ("contexts", 480),
     ("pairs", 200),
     ("utf8", 180),
-    ("not-utf8", 60),
+    ("not-utf8", 100),
     ("lines", 150),
     ("grammar", 260),
     ("systems", 120),
     ("limit", 40),
     ("chains", 18),
-    ("lengths", 12),
+    ("lengths", 37),
     ("files", 140),
 ];
 

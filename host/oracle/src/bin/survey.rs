@@ -28,6 +28,12 @@ fn main() -> ExitCode {
             *counts.entry(oracle::answer(text).number()).or_default() += 1;
             texts += 1;
         });
+        assert_eq!(
+            texts,
+            generator.count(scale),
+            "{} does not make the number of texts it states",
+            generator.name
+        );
         let counts: Vec<String> = counts.iter().map(|(number, count)| format!("{number}: {count}")).collect();
         println!("{} (seed {}): {texts} texts; {}", generator.name, generator.seed, counts.join(", "));
     }

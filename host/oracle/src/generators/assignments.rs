@@ -54,17 +54,34 @@ pub(super) fn systems(seed: u64, scale: Scale, sink: Sink) {
     }
 }
 
-/// Assigns `<prefix>5` a value of 67,108,864 bytes and `<prefix>h` half of that, each from the one before it. Falling
-/// names make each value wait for the next pass.
-fn base(prefix: &str, falling: bool) -> String {
-    let name = |step: usize| if falling { 5 - step } else { step };
-    let mut text = format!("{prefix}{}={}\n", name(0), "0123456789abcdef".repeat(4));
-    for step in 1..=5 {
-        let below = format!("${{{prefix}{}}}", name(step - 1));
-        writeln!(text, "{prefix}{}={}", name(step), below.repeat(16)).expect("a string takes all");
+/// Five steps of sixteen times each, from 64 bytes to 67,108,864. Falling names make each step wait for the next pass.
+struct Steps {
+    prefix: &'static str,
+    falling: bool,
+}
+
+impl Steps {
+    fn reference(&self, step: usize) -> String {
+        format!("${{{}{}}}", self.prefix, self.name(step))
     }
-    text += &format!("{prefix}h={}\n", format!("${{{prefix}{}}}", name(4)).repeat(8));
-    text
+
+    fn name(&self, step: usize) -> usize {
+        if self.falling { 5 - step } else { step }
+    }
+
+    fn assignments(&self) -> String {
+        let mut text = format!("{}{}={}\n", self.prefix, self.name(0), "0123456789abcdef".repeat(4));
+        for step in 1..=5 {
+            let value = self.reference(step - 1).repeat(16);
+            writeln!(text, "{}{}={value}", self.prefix, self.name(step)).expect("a string takes all");
+        }
+        text
+    }
+
+    /// Half the limit, as an assignment to `<prefix>h`.
+    fn half(&self) -> String {
+        format!("{}h={}\n", self.prefix, self.reference(4).repeat(8))
+    }
 }
 
 pub(super) fn limit(seed: u64, scale: Scale, sink: Sink) {
@@ -73,19 +90,20 @@ pub(super) fn limit(seed: u64, scale: Scale, sink: Sink) {
         "x", "V", "Vx", "xV", "VxN", "NVx", "VNx", "HH", "HHx", "H", "P", "Px", "Q", "Qx", "PP", "QP", "VP",
         "PV", "PxN", "S", "VxS", "SVx", "xPQ", "HP", "HQP", "R", "Rx", "HR", "",
     ];
+    let ends = ["", "", "Libs: ${p} ${q} ${r}", "Name: ${p}x", "Libs: ${q} ${none}", "Cflags: ${r}"];
     let mut random = Random::new(seed);
-    for _ in 0..if scale == Scale::Small { 100 } else { 3_000 } {
+    for _ in 0..if scale == Scale::Small { 60 } else { 3_000 } {
         let names: &[&str] = if random.below(2) == 0 { &["p", "q", "r"] } else { &["p", "q", "r", "s"] };
         let (prefix, falling) =
-            random.pick(&[&("k", false), &("k", true), &("z", false), &("z", true), &("q.", false)]);
-        let top = if *falling { 0 } else { 5 };
-        let mut text = base(prefix, *falling);
+            *random.pick(&[&("k", false), &("k", true), &("z", false), &("z", true), &("q.", false)]);
+        let steps = Steps { prefix, falling };
+        let mut system = String::new();
         for (at, name) in names.iter().enumerate() {
-            write!(text, "{name}=").expect("a string takes all");
+            write!(system, "{name}=").expect("a string takes all");
             for symbol in random.pick(&values).chars() {
                 let other = |step: usize| format!("${{{}}}", names[(at + step) % names.len()]);
-                text += &match symbol {
-                    'V' => format!("${{{prefix}{top}}}"),
+                system += &match symbol {
+                    'V' => steps.reference(5),
                     'H' => format!("${{{prefix}h}}"),
                     'N' => "${none}".to_owned(),
                     'S' => other(0),
@@ -95,10 +113,12 @@ pub(super) fn limit(seed: u64, scale: Scale, sink: Sink) {
                     plain => plain.to_string(),
                 };
             }
-            text.push('\n');
+            system.push('\n');
         }
-        text += random.pick(&["", "", "", "Name: ${p}x", "Libs: ${q} ${none}", "Cflags: ${r}"]);
-        sink(text.as_bytes());
+        // Half the limit is assigned only where it is used: at its size, that saves time.
+        let half = if system.contains("h}") { steps.half() } else { String::new() };
+        let end = random.pick(&ends);
+        sink(format!("{}{half}{system}{end}", steps.assignments()).as_bytes());
     }
 }
 

@@ -27,6 +27,7 @@ publish = false
 
 [profile.dev]
 opt-level = 2
+debug = false
 "#;
 
 /// What is copied from `oracle/`.
@@ -67,6 +68,10 @@ fn main() -> ExitCode {
         let mut found = Vec::new();
         let mut smallest: Option<Vec<u8>> = None;
         for family in &families {
+            // `limit` takes longer than all others together: it is asked where nothing but the document's cases helped.
+            if family.name == "limit" && found.iter().any(|name| *name != "document") {
+                continue;
+            }
             if let Some(index) = first_difference(&copy, family) {
                 found.push(family.name);
                 let text = family.text_at(index);
