@@ -14,18 +14,13 @@ pub(super) fn systems(seed: u64, scale: Scale, sink: Sink) {
     for first in parts {
         values.extend(parts.iter().map(|second| format!("{first}{second}")));
     }
-    let mut at = 0;
-    let mut give = |text: &str| {
-        sink(text.as_bytes());
-        at += 1;
-        at
-    };
+    let mut ends = ENDS.into_iter().cycle();
+    let mut end = || ends.next().expect("it goes round");
     // All systems of three names, each with up to two parts.
-    let mut end = 0;
     for a in &values {
         for b in &values {
             for c in &values {
-                end = give(&format!("b={b}\nc={c}\na={a}\n{}", ENDS[end % ENDS.len()]));
+                sink(format!("b={b}\nc={c}\na={a}\n{}", end()).as_bytes());
             }
         }
     }
@@ -35,7 +30,7 @@ pub(super) fn systems(seed: u64, scale: Scale, sink: Sink) {
         for b in single {
             for c in single {
                 for d in single {
-                    end = give(&format!("a={a}\nd={d}\nc={c}\nb={b}\n{}", ENDS[end % ENDS.len()]));
+                    sink(format!("a={a}\nd={d}\nc={c}\nb={b}\n{}", end()).as_bytes());
                 }
             }
         }
@@ -50,7 +45,7 @@ pub(super) fn systems(seed: u64, scale: Scale, sink: Sink) {
             writeln!(text, "{name}={value}").expect("a string takes all");
         }
         text += random.pick(&ENDS);
-        give(&text);
+        sink(text.as_bytes());
     }
 }
 
