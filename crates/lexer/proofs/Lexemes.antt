@@ -62,11 +62,11 @@ module _ (text : List ℕ) (j r : ℕ) (e : r ≡ classAt (drop j text)) where
     name-in q = within (λ p. omega arith)
 
     pub name-more : r ≡ 1 → x ≡ j + run isIdentifier (drop j text) → x ≡ j + 1 + run isIdentifier (drop (j + 1) text)
-    unfolding test classNumber
+    unfolding classNumber
     name-more q i = let z = run-on isIdentifier text j (name-in q) (yes-at Class.identifier (name-in q) q) in omega arith
 
     pub name-stop : (r ≡ 1 → ⊥) → x ≡ j + run isIdentifier (drop j text) → j ≡ x
-    unfolding test classNumber
+    unfolding classNumber
     name-stop n i = go (decLt j (length text))
       where
         go : Dec (j < length text) → j ≡ x
@@ -74,11 +74,11 @@ module _ (text : List ℕ) (j r : ℕ) (e : r ≡ classAt (drop j text)) where
         go (no h) = let z = run-end isIdentifier text j (omega arith) in omega arith
 
     pub line-more : j < length text → (r ≡ 9 → ⊥) → x ≡ j + comment (drop j text) → x ≡ j + 1 + comment (drop (j + 1) text)
-    unfolding test classNumber comment
+    unfolding classNumber comment
     line-more h n i = let z = run-on (λ b. not (isLineEnd b)) text j h (rw (no-at Class.lineEnd h n)) in omega arith
 
     pub line-stop : j < length text → r ≡ 9 → x ≡ j + comment (drop j text) → j ≡ x
-    unfolding test classNumber comment
+    unfolding classNumber comment
     line-stop h q i = let z = run-off (λ b. not (isLineEnd b)) text j h (rw (yes-at Class.lineEnd h q)) in omega arith
 
 pub line-end : (text : List ℕ) (j x : ℕ) → length text ≤ j → x ≡ j + comment (drop j text) → j ≡ x
@@ -95,7 +95,7 @@ module _ (text : List ℕ) (i r : ℕ) (e : r ≡ classAt (drop (i + 1) text)) w
   second-in q = within text (i + 1) r e (λ p. omega arith)
 
   second-by : r ≡ 9 → second (getD text i 0) (drop (i + 1) text) ≡ pick (not (eqb (getD text i 0) (getD text (i + 1) 0))) 1 0
-  unfolding second test classNumber
+  unfolding second classNumber
   second-by q = rw (rest-at text (i + 1) (second-in q), yes-at text (i + 1) r e Class.lineEnd (second-in q) q)
 
   pub second-same : r ≡ 9 → getD text i 0 ≡ getD text (i + 1) 0 → i + 1 ≡ i + 1 + second (getD text i 0) (drop (i + 1) text)
@@ -107,7 +107,7 @@ module _ (text : List ℕ) (i r : ℕ) (e : r ≡ classAt (drop (i + 1) text)) w
   second-other q s = let z : second (getD text i 0) (drop (i + 1) text) ≡ 1 = second-by q ∙ rw (ne-eqb (getD text i 0) (getD text (i + 1) 0) s) in omega arith
 
   pub second-none : (r ≡ 9 → ⊥) → i + 1 ≡ i + 1 + second (getD text i 0) (drop (i + 1) text)
-  unfolding second pick test classNumber
+  unfolding second pick classNumber
   second-none n = go (decLt (i + 1) (length text))
     where
       go : Dec (i + 1 < length text) → i + 1 ≡ i + 1 + second (getD text i 0) (drop (i + 1) text)
@@ -133,7 +133,7 @@ module _ (text : List ℕ) (i c : ℕ) (here : i < length text) (e : c ≡ class
   join-in q = within text (i + 1) c e (λ p. omega arith)
 
   pub backslash-hash : c ≡ 11 → Shows text i (afterBackslash (drop (i + 1) text)) 1 (i + 1) 1 (i + 2)
-  unfolding afterBackslash shown pick test classNumber
+  unfolding afterBackslash shown pick classNumber
   backslash-hash q =
       let h : i + 1 < length text = within text (i + 1) c e (λ p. omega arith) in
       let m : i + 2 - (i + 1) ≡ 1 = omega arith in
@@ -146,7 +146,7 @@ module _ (text : List ℕ) (i c : ℕ) (here : i < length text) (e : c ≡ class
       }
 
   pub backslash-join : (n : ℕ) → (c ≡ 11 → ⊥) → c ≡ 9 → n ≡ i + 1 + 1 + second (getD text (i + 1) 0) (drop (i + 1 + 1) text) → Shows text i (afterBackslash (drop (i + 1) text)) 1 i 0 n
-  unfolding afterBackslash shown pick test classNumber
+  unfolding afterBackslash shown pick classNumber
   backslash-join n f q d =
       let h = join-in q in
       let m : n - (i + 1) ≡ 1 + second (getD text (i + 1) 0) (drop (i + 1 + 1) text) = omega arith in
@@ -159,7 +159,7 @@ module _ (text : List ℕ) (i c : ℕ) (here : i < length text) (e : c ≡ class
       }
 
   pub backslash-alone : (c ≡ 11 → ⊥) → (c ≡ 9 → ⊥) → Shows text i (afterBackslash (drop (i + 1) text)) 8 i 1 (i + 1)
-  unfolding afterBackslash shown pick test classNumber
+  unfolding afterBackslash shown pick classNumber
   backslash-alone f g = record { is-lexeme = go (decLt (i + 1) (length text)); on = omega arith; inside = omega arith; after = omega arith; part = omega arith }
     where
       m : i + 1 - (i + 1) ≡ 0
@@ -185,7 +185,7 @@ module _ (text : List ℕ) (i end c : ℕ) (here : i + 2 ≤ length text) (d : e
       rw (n, drop-drop (end - (i + 2)) (i + 2) text, m)
 
   pub reference-closed : c ≡ 13 → Shows text i (afterBrace (drop (i + 2) text)) 2 (i + 2) (end - (i + 2)) (end + 1)
-  unfolding afterName shown pick test classNumber
+  unfolding afterName shown pick classNumber
   reference-closed q =
       let h : end < length text = within text end c e (λ p. omega arith) in
       let m : end + 1 - (i + 1) ≡ 2 + (end - (i + 2)) = omega arith in
@@ -204,7 +204,7 @@ module _ (text : List ℕ) (i end c : ℕ) (here : i + 2 ≤ length text) (d : e
       record { is-lexeme = rw (brace-by, drop-of-length-le text k); on = omega arith; inside = name-inside; after = omega arith; part = omega arith }
 
   pub reference-bad : (c ≡ 13 → ⊥) → (c ≡ 15 → ⊥) → Shows text i (afterBrace (drop (i + 2) text)) 11 end 0 end
-  unfolding afterName shown errorShown pick test classNumber
+  unfolding afterName shown errorShown pick classNumber
   reference-bad f g =
       let h : end < length text = within text end c e g in
       record { is-lexeme = rw (brace-by, rest-at text end h, no-at text end c e Class.closeBrace h f); on = omega arith; inside = name-inside; after = omega arith; part = omega arith }
@@ -216,14 +216,14 @@ module _ (text : List ℕ) (i c : ℕ) (here : i < length text) (e : c ≡ class
 
   pub dollar-brace : (kind from len next : ℕ) → c ≡ 12 → Shows text i (afterBrace (drop (i + 2) text)) kind from len next
       → Shows text i (afterDollar (getD text i 0) (drop (i + 1) text)) kind from len next
-  unfolding afterDollar pick test classNumber
+  unfolding afterDollar pick classNumber
   dollar-brace kind from len next q s =
       let h : i + 1 < length text = within text (i + 1) c e (λ p. omega arith) in
       let m : i + 1 + 1 ≡ i + 2 = omega arith in
       rw (rest-at text (i + 1) h, yes-at text (i + 1) c e Class.openBrace h q, m) s
 
   pub dollar-two : c ≡ 10 → Shows text i (afterDollar (getD text i 0) (drop (i + 1) text)) 1 i 1 (i + 2)
-  unfolding afterDollar shown pick test classNumber
+  unfolding afterDollar shown pick classNumber
   dollar-two q =
       let h : i + 1 < length text = within text (i + 1) c e (λ p. omega arith) in
       let m : i + 2 - (i + 1) ≡ 1 = omega arith in
@@ -243,7 +243,7 @@ module _ (text : List ℕ) (i c : ℕ) (here : i < length text) (e : c ≡ class
       record { is-lexeme = rw (one-at text i here, m, drop-of-length-le text k); on = omega arith; inside = omega arith; after = omega arith; part = omega arith }
 
   pub dollar-other : (c ≡ 12 → ⊥) → (c ≡ 10 → ⊥) → (c ≡ 15 → ⊥) → Shows text i (afterDollar (getD text i 0) (drop (i + 1) text)) 1 i 2 (i + 2)
-  unfolding afterDollar shown pick test classNumber
+  unfolding afterDollar shown pick classNumber
   dollar-other f g k =
       let h : i + 1 < length text = within text (i + 1) c e k in
       let m : i + 2 - (i + 1) ≡ 1 = omega arith in

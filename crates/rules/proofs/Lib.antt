@@ -6,7 +6,6 @@ pub mod PassesLaws
 pub mod ResolveLaws
 pub mod WriterLaws
 pub mod Lengths
-pub mod LimitEdges
 pub mod TableLaws
 pub mod LinesLaws
 pub mod Demand3Laws
@@ -21,3 +20,9 @@ pub mod CallLaws
 pub mod CallDemand3
 pub mod Computed
 pub mod PTable
+pub mod Promises
+pub mod LimitEdges
+pub mod Cases
+pub mod SourceCases
+pub mod TokenLaws
+pub mod NameLaws
