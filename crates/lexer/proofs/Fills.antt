@@ -5,8 +5,7 @@ use mathlib.Core.Bool.{Bool, true, false}
 use mathlib.Core.List.{List, [], _∷_, _++_, append-assoc, append-nil}
 use native.Mathlib.Omega.{arith}
 use native.Mathlib.Decide.{decLt, ℕ-discrete}
-use lib.ListN.{length, take, drop, length-append, length-drop, drop-of-length-le}
-use lib.Seq.{length-take-le}
+use lib.ListN.{length, take, drop, length-append, drop-of-length-le}
 use lib.Dec.{eqb, ltb}
 use borrow.Author.Tests.{ne-eqb, eq-eqb, lt-ltb, le-ltb, ltb-true, lt-leb}
 use Rattle.rules.specs.Bytes.{pick, overwrite}
@@ -15,6 +14,7 @@ use Rattle.rules.specs.Lexing.{Gathered, nothingYet, firstSource, gather, textT
 use Rattle.rules.proofs.TableLaws.{refused-ok}
 use Rattle.rules.proofs.LexingLaws.{pool-append, pool-one, flush-pool}
 use Rattle.scan.specs.Stores.{puts}
+use Rattle.scan.proofs.Lists.{length-part}
 use Rattle.scan.proofs.Stores.{length-puts, puts-overwrite, overwrite-nil}
 use Rattle.tokens.specs.Entries.{entry, entries, poolText}
 use Rattle.tokens.proofs.TokenLaws.{entries-append, entries-one, length-entries}
@@ -22,7 +22,7 @@ use Rattle.lexer.specs.declared.LexError.{LexError}
 use Rattle.lexer.specs.declared.Verdict.{Verdict}
 use Rattle.lexer.specs.declared.Verdict.the-variants.{Fine, Bad}
 use Rattle.lexer.specs.Lexes.{Room, Holds, Untouched, errorOf}
-use Rattle.lexer.specs.Pieces.{lexemeAt, Shows}
+use Rattle.lexer.specs.Pieces.{Reads}
 use Rattle.lexer.specs.Inner.{Accepted, Judges, Fillable, flushed, flushedCount, FlushRoom, made, PutRoom}
 use Rattle.lexer.proofs.Lefts.{prepend-nil, prepend-prepend, kind-above, left-chars, left-token, Left, left-refused}
 
@@ -63,7 +63,7 @@ unfolding made pick pooled token
 made-le text i kind from len used h v = go (ℕ-discrete kind 2)
   where
     go : Dec (kind ≡ 2) → length (poolText (made text i kind from len used)) ≤ len
-    go (yes q) = rw (q, made) (omega (arith, length-take-le len (drop from text) (omega (arith, length-drop from text))))
+    go (yes q) = rw (q, made) (omega (arith, length-part text from len h))
     go (no q) = rw (ne-eqb kind 2 q, lt-leb kind 2 (omega arith)) (omega arith)
 
 -- more tokens are written
@@ -151,7 +151,7 @@ module _ (text ws₀ pool₀ ws pool : List ℕ) (i count start used source : �
       }
 
   -- a turn, by its lexeme
-  module _ (kind from len next : ℕ) (h : i < length text) (s : Shows text i (lexemeAt text i) kind from len next) where
+  module _ (kind from len next : ℕ) (h : i < length text) (s : Reads text i kind from len next) where
     -- no lexeme is refused
     fine-kind : kind ≤ 9
     fine-kind = go (decLt 9 kind)
@@ -163,18 +163,18 @@ module _ (text ws₀ pool₀ ws pool : List ℕ) (i count start used source : �
             absurd (refused-ok (sym (left-refused text i L kind from len next h s e) ∙ F .fine .is-tokens))
 
     part-length : length (take len (drop from text)) ≡ len
-    part-length = length-take-le len (drop from text) (omega (arith, length-drop from text))
-
-    pub part-here : from + len ≤ length text
-    part-here = omega arith
+    part-length = length-part text from len (omega arith)
 
     pub pool-fits : used + len ≤ length pool
     pool-fits = omega arith
 
-    pub fill-text : (pool′ : List ℕ) (source′ used′ : ℕ) → kind ≡ 1 → source′ ≡ pick (eqb start used) i source → used′ ≡ used + len
-        → pool′ ≡ puts pool used (take len (drop from text)) → Filling text ws₀ pool₀ ws pool′ next count start used′ source′
+    pub used-word : used + len < 18446744073709551616
+    used-word = omega arith
+
+    pub fill-text : (pool′ : List ℕ) (source′ : ℕ) → kind ≡ 1 → source′ ≡ pick (eqb start used) i source
+        → pool′ ≡ puts pool used (take len (drop from text)) → Filling text ws₀ pool₀ ws pool′ next count start (used + len) source′
     unfolding gather
-    fill-text pool′ source′ used′ q a u c =
+    fill-text pool′ source′ q a c =
         let bs = take len (drop from text) in
         let l : length bs ≡ len = part-length in
         let f : source′ ≡ firstSource (F .w) source i = a ∙ first-is (F .w) source i start used (F .is-used) in

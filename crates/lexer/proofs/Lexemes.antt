@@ -3,19 +3,20 @@ use Prim.Native.Nat.{ℕ, suc, _+_, _-_, _≤_, _<_}
 use mathlib.Core.Path.{_≡_, refl, ap, sym, _∙_}
 use mathlib.Core.Bool.{Bool, true, false, not}
 use mathlib.Core.List.{List, [], _∷_}
+use mathlib.Core.Logic.{inl, inr}
 use native.Mathlib.Omega.{arith}
 use native.Mathlib.Decide.{decLt}
 use lib.ListN.{length, take, drop, getD, length-drop, drop-of-length-le}
 use lib.Seq.{drop-drop, length-take-le}
 use lib.Dec.{eqb}
-use borrow.Author.Tests.{eq-eqb, ne-eqb, le-leb}
+use borrow.Author.Tests.{eq-eqb, ne-eqb, lt-ltb, le-ltb, le-leb}
 use Rattle.rules.specs.Bytes.{pick, run}
 use Rattle.rules.specs.Lexing.{Class, chars, mark, isIdentifier, isLineEnd, class, second, comment, afterBackslash, afterName, afterBrace, afterDollar, lexeme}
 use Rattle.rules.proofs.LexingLaws.{second-le, run-le}
 use Rattle.scan.specs.Classes.{classNumber, classAt}
-use Rattle.scan.proofs.Classes.{class-is, test, test-true, test-false, class-in, class-past, number-below}
+use Rattle.scan.proofs.Classes.{class-is, test, test-true, test-false, class-in, past-end, not-past}
 use Rattle.scan.proofs.Lists.{rest-at}
-use Rattle.lexer.specs.Pieces.{lexemeAt, errorShown, shown, Shows}
+use Rattle.lexer.specs.Pieces.{lexemeAt, errorShown, shown, Shows, isPlain, Reads}
 
 -- how far a test holds, from place j on
 module _ (f : ℕ → Bool) (text : List ℕ) (j : ℕ) where
@@ -33,22 +34,14 @@ module _ (f : ℕ → Bool) (text : List ℕ) (j : ℕ) where
 
 -- by the class r at place j
 module _ (text : List ℕ) (j r : ℕ) (e : r ≡ classAt (drop j text)) where
-  pub within : (r ≡ 15 → ⊥) → j < length text
-  within n = go (decLt j (length text))
-    where
-      go : Dec (j < length text) → j < length text
-      go (yes h) = h
-      go (no h) = absurd (n (e ∙ class-past text j (omega arith)))
+  within : (r ≡ 15 → ⊥) → j < length text
+  within n = not-past text j (λ q. n (e ∙ q))
 
   number : j < length text → r ≡ classNumber (class (getD text j 0))
   number h = e ∙ class-in text j h
 
-  pub at-end : r ≡ 15 → length text ≤ j
-  at-end q = go (decLt j (length text))
-    where
-      go : Dec (j < length text) → length text ≤ j
-      go (yes h) = absurd (let z = number-below (class (getD text j 0)) in let y = number h in omega arith)
-      go (no h) = omega arith
+  at-end : r ≡ 15 → length text ≤ j
+  at-end q = past-end text j (sym e ∙ q)
 
   yes-at : (c : Class) → j < length text → r ≡ classNumber c → test c (getD text j 0) ≡ true
   yes-at c h q = test-true c (getD text j 0) (sym (number h) ∙ q)
@@ -58,6 +51,28 @@ module _ (text : List ℕ) (j r : ℕ) (e : r ≡ classAt (drop j text)) where
 
   -- a scan from place j on; x is where it ends
   module _ (x : ℕ) where
+    pub plain-in : r < 3 → j < length text
+    plain-in l = within (λ p. omega arith)
+
+    pub plain-more : r < 3 → x ≡ j + run isPlain (drop j text) → x ≡ j + 1 + run isPlain (drop (j + 1) text)
+    unfolding isPlain
+    plain-more l i =
+        let h = plain-in l in
+        let n = number h in
+        let z = run-on isPlain text j h (lt-ltb (classNumber (class (getD text j 0))) 3 (omega arith)) in
+        omega arith
+
+    pub plain-stop : 3 ≤ r → x ≡ j + run isPlain (drop j text) → j ≡ x
+    unfolding isPlain
+    plain-stop l i = go (decLt j (length text))
+      where
+        go : Dec (j < length text) → j ≡ x
+        go (yes h) =
+            let n = number h in
+            let z = run-off isPlain text j h (le-ltb (classNumber (class (getD text j 0))) 3 (omega arith)) in
+            omega arith
+        go (no h) = let z = run-end isPlain text j (omega arith) in omega arith
+
     pub name-in : r ≡ 1 → j < length text
     name-in q = within (λ p. omega arith)
 
@@ -256,7 +271,7 @@ module _ (text : List ℕ) (i c : ℕ) (here : i < length text) (e : c ≡ class
       }
 
 -- the bytes that are text by themselves, and those that are tokens by themselves
-plain : (c : Class) (b : ℕ) (bs : List ℕ) → (3 ≤ classNumber c → classNumber c < 12 → ⊥) → lexeme c b bs ≡ chars (b ∷ []) 0
+pub plain : (c : Class) (b : ℕ) (bs : List ℕ) → (3 ≤ classNumber c → classNumber c < 12 → ⊥) → lexeme c b bs ≡ chars (b ∷ []) 0
 unfolding lexeme classNumber
 plain Class.other b bs h = refl
 plain Class.identifier b bs h = refl
@@ -354,3 +369,18 @@ module _ (text : List ℕ) (i c : ℕ) (here : i < length text) (e : c ≡ class
         after = omega arith;
         part = omega arith;
       }
+
+-- a run of bytes that are text by themselves, or else one lexeme
+module _ (text : List ℕ) (i : ℕ) where
+  pub reads-run : (end : ℕ) → i < length text → end ≡ i + run isPlain (drop i text) → i < end → Reads text i 1 i (end - i) end
+  reads-run end here d h =
+      record {
+        is-piece = inl (record { is-text = refl; is-from = refl; is-len = omega arith }, omega arith);
+        on = h;
+        inside = omega (arith, run-le isPlain (drop i text), length-drop i text);
+        after = omega arith;
+        part = omega arith;
+      }
+
+  pub reads-one : (kind from len next : ℕ) → Shows text i (lexemeAt text i) kind from len next → Reads text i kind from len next
+  reads-one kind from len next s = record { is-piece = inr (s .is-lexeme); on = s .on; inside = s .inside; after = s .after; part = s .part }

@@ -1,15 +1,15 @@
 -- Laws of writing one token. Assumes nothing.
 use Prim.Native.Nat.{ℕ, _+_, _-_, _*_, _≤_, _<_}
-use mathlib.Core.Path.{_≡_, ap, _∙_}
+use mathlib.Core.Path.{_≡_, _∙_}
 use mathlib.Core.List.{List, [], _∷_}
 use native.Mathlib.Nat.{add-zero}
 use native.Mathlib.Omega.{arith}
-use lib.ListN.{length, take, drop, getD, length-drop}
-use lib.Seq.{length-take-le}
+use lib.ListN.{length, take, drop, getD}
 use borrow.Author.Tests.{ne-eqb, lt-ltb, le-ltb, lt-leb}
 use Rattle.rules.specs.Bytes.{pick}
 use Rattle.rules.specs.Tokens.{token, pooled}
 use Rattle.scan.specs.Stores.{puts}
+use Rattle.scan.proofs.Lists.{length-part}
 use Rattle.tokens.specs.Entries.{entry, poolText}
 use Rattle.lexer.specs.Inner.{flushed, flushedCount, FlushRoom, made, PutRoom}
 
@@ -35,27 +35,16 @@ module _ (count start used source : ℕ) where
   unfolding flushed pick
   flush-same l h = rw (le-ltb start used h)
 
--- a part of the text goes into the pool
-module _ (text : List ℕ) (from len used : ℕ) (pool : List ℕ) (bs : List ℕ) (e : bs ≡ take len (drop from text)) where
-  pub part-fits : from + len ≤ length text → used + len ≤ length pool → used + length bs ≤ length pool
-  part-fits h k = let l = ap length e ∙ length-take-le len (drop from text) (omega (arith, length-drop from text)) in omega arith
-
-  pub part-put : (pool′ : List ℕ) → pool′ ≡ puts pool used bs → pool′ ≡ puts pool used (take len (drop from text))
-  part-put pool′ q = rw e at q
-
 -- a token that isn't Text
 module _ (text : List ℕ) (i kind from len used : ℕ) where
-  name-length : from + len ≤ length text → length (take len (drop from text)) ≡ len
-  name-length h = length-take-le len (drop from text) (omega (arith, length-drop from text))
-
   module _ (ws pool : List ℕ) (count : ℕ) (r : PutRoom text ws pool i kind from len count used) where
-    pub name-end : (n : ℕ) → kind ≡ 2 → n ≡ used + len → n ≡ used + length (poolText (made text i kind from len used))
+    pub name-end : kind ≡ 2 → used + len ≡ used + length (poolText (made text i kind from len used))
     unfolding made pick pooled token
-    name-end n q e = e ∙ rw (q, name-length (r .part))
+    name-end q = rw (q, length-part text from len (r .part))
 
     pub name-entry : (ws′ : List ℕ) → kind ≡ 2 → ws′ ≡ puts ws (4 * count) (kind ∷ used ∷ len ∷ i ∷ []) → ws′ ≡ puts ws (4 * count) (entry (made text i kind from len used))
     unfolding made pick pooled token entry
-    name-entry ws′ q e = e ∙ rw (q, name-length (r .part))
+    name-entry ws′ q e = e ∙ rw (q, length-part text from len (r .part))
 
     pub name-put : (pool′ : List ℕ) → kind ≡ 2 → pool′ ≡ puts pool used (take len (drop from text)) → pool′ ≡ puts pool used (poolText (made text i kind from len used))
     unfolding made pick pooled token

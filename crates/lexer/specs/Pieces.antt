@@ -1,14 +1,17 @@
--- What the contracts of the functions that read one lexeme cite: four numbers show a lexeme of rules' `lexeme`. Assumes nothing.
+-- What the contracts of the functions that read one piece of the text cite: four numbers show a lexeme of rules' `lexeme`, or a run of them. Assumes nothing.
 use Prim.Native.Nat.{ℕ, _+_, _-_, _≤_, _<_}
 use mathlib.Core.Path.{_≡_}
+use mathlib.Core.Bool.{Bool}
 use mathlib.Core.List.{List}
+use mathlib.Core.Logic.{_⊎_}
 use lib.ListN.{length, take, drop, getD}
-use lib.Dec.{eqb, leb}
-use Rattle.rules.specs.Bytes.{pick}
+use lib.Dec.{eqb, ltb, leb}
+use Rattle.rules.specs.Bytes.{pick, run}
 use Rattle.rules.specs.Tokens.{Text, Variable, NewLine}
 use Rattle.rules.specs.Numbers.{LexError, MissingCloseVariable, InvalidVariableChar}
 use Rattle.rules.specs.Lexing.{Lexeme, chars, reference, mark, bad, class, lexeme}
 use Rattle.rules.specs.Utf8.{codePoint}
+use Rattle.scan.specs.Classes.{classNumber}
 
 -- the lexeme at place i of the text
 abbrev pub lexemeAt : List ℕ → ℕ → Lexeme
@@ -35,6 +38,24 @@ shown text i kind from len next =
 -- the numbers show the lexeme x, and stay within the text
 pub record Shows (text : List ℕ) (i : ℕ) (x : Lexeme) (kind from len next : ℕ) : Type 0 where
   pub is-lexeme : x ≡ shown text i kind from len next
+  pub on : i < next
+  pub inside : next ≤ length text
+  pub after : i ≤ from
+  pub part : from + len ≤ next
+
+-- identifier and other bytes, which are text by themselves
+unfoldable pub isPlain : ℕ → Bool
+isPlain b = ltb (classNumber (class b)) 3
+
+-- the numbers show all the bytes from place i on that are text by themselves
+pub record Plain (text : List ℕ) (i kind from len : ℕ) : Type 0 where
+  pub is-text : kind ≡ Text
+  pub is-from : from ≡ i
+  pub is-len : len ≡ run isPlain (drop i text)
+
+-- the numbers show such a run, or else one lexeme, and stay within the text
+pub record Reads (text : List ℕ) (i kind from len next : ℕ) : Type 0 where
+  pub is-piece : (Plain text i kind from len × (next ≡ i + len)) ⊎ (lexemeAt text i ≡ shown text i kind from len next)
   pub on : i < next
   pub inside : next ≤ length text
   pub after : i ≤ from

@@ -4,12 +4,12 @@ ghost use Prim.Native.Nat.{_+_, _≤_, _<_};
 ghost use lib.ListN.{length, drop, getD};
 ghost use Rattle.rules.specs.Bytes.{run};
 ghost use Rattle.rules.specs.Lexing.{isIdentifier, comment, second, afterBackslash, afterBrace, afterDollar};
-ghost use Rattle.lexer.specs.Pieces.{Shows, lexemeAt};
+ghost use Rattle.lexer.specs.Pieces.{Shows, lexemeAt, isPlain, Reads};
 use scan::class::ByteClass;
 use scan::class::class_at;
 use tokens::TokenKind;
 
-// One lexeme: its kind, its text, which is the `len` bytes from `from` on, and where the next one starts.
+// A piece of the text: its kind, its own text, which is the `len` bytes from `from` on, and where the next one starts.
 pub struct Piece {
     pub kind: u32,
     pub from: usize,
@@ -213,4 +213,33 @@ pub fn lexeme_at(text: &[u8], i: usize) -> Piece
         len: 1,
         next: i + 1,
     }
+}
+
+// Past the bytes that are text by themselves.
+fn text_end(text: &[u8], i: usize) -> usize
+    requires { ⌜ i ≤ length (now text) ⌝ }
+    ensures { λ r. ⌜ r ≡ i + run isPlain (drop i (now (text .entry))) ⌝ }
+{
+    let mut j = i;
+    while class_at(text, j) < ByteClass::BLANK {
+        j += 1;
+    }
+    j
+}
+
+// All the bytes from place i on that are text by themselves, or else one lexeme.
+pub fn piece_at(text: &[u8], i: usize) -> Piece
+    requires { ⌜ i < length (now text) ⌝ }
+    ensures { λ r. ⌜ Reads (now (text .entry)) i (r .kind) (r .from) (r .len) (r .next) ⌝ }
+{
+    let end = text_end(text, i);
+    if i < end {
+        return Piece {
+            kind: TokenKind::TEXT,
+            from: i,
+            len: end - i,
+            next: end,
+        };
+    }
+    lexeme_at(text, i)
 }

@@ -2,8 +2,8 @@
 pub mod lexeme;
 
 ghost use mathlib.Core.Path.{_≡_};
-ghost use Prim.Native.Nat.{_+_, _*_, _≤_};
-ghost use lib.ListN.{length, take, drop};
+ghost use Prim.Native.Nat.{_+_, _*_};
+ghost use lib.ListN.{length};
 ghost use lib.Dec.{eqb};
 ghost use Rattle.rules.specs.Bytes.{pick};
 ghost use Rattle.scan.specs.Stores.{puts};
@@ -12,9 +12,8 @@ ghost use Rattle.lexer.specs.Lexes.{Room, Holds, Lexes, errorOf};
 ghost use Rattle.lexer.specs.Pieces.{errorShown};
 ghost use Rattle.lexer.specs.Inner.{Judges, Fillable, flushed, flushedCount, FlushRoom, made, PutRoom};
 use lexeme::Piece;
-use lexeme::lexeme_at;
-use scan::column::part;
-use scan::store::copy;
+use lexeme::piece_at;
+use scan::store::copy_part;
 use scan::store::put4;
 use tokens::TokenKind;
 use utf8::code_point_at;
@@ -54,7 +53,7 @@ fn find_refusal(text: &[u8]) -> Verdict
 {
     let mut i = 0;
     while i < text.len() {
-        let p = lexeme_at(text, i);
+        let p = piece_at(text, i);
         let kind = p.kind;
         if TokenKind::NEW_LINE < kind {
             let from = p.from;
@@ -71,16 +70,6 @@ fn first_source(start: usize, used: usize, source: usize, at: usize) -> usize
     ensures { λ r. ⌜ r ≡ pick (eqb start used) at source ⌝ }
 {
     if start == used { at } else { source }
-}
-
-// A part of the text goes into the pool, whose end is `used`. Returns the new end.
-fn copy_part(text: &[u8], from: usize, len: usize, pool: &mut [u8], used: usize) -> usize
-    requires { ⌜ (from + len ≤ length (now text)) × (used + len ≤ length (now pool)) ⌝ }
-    ensures { λ r. ⌜ (r ≡ used + len) × (now (pool .exit) ≡ puts (now (pool .entry)) used (take len (drop from (now (text .entry))))) ⌝ }
-{
-    let s = part(text, from, len);
-    copy(s, pool, used);
-    used + len
 }
 
 // Gathered Text ends: its token, where there is any. Returns the number of tokens.
@@ -121,7 +110,8 @@ fn put_token(
 {
     if kind == TokenKind::VARIABLE {
         put4(ws, 4 * count, kind, used as u32, len as u32, i as u32);
-        return copy_part(text, from, len, pool, used);
+        copy_part(text, from, len, pool, used);
+        return used + len;
     }
     let b = text[i] as u32;
     put4(ws, 4 * count, kind, b, 1, i as u32);
@@ -144,13 +134,14 @@ fn fill(text: &[u8], ws: &mut [u32], pool: &mut [u8]) -> Filled
     let mut used = 0;
     let mut source = 0;
     while i < text.len() {
-        let p = lexeme_at(text, i);
+        let p = piece_at(text, i);
         let kind = p.kind;
         let from = p.from;
         let len = p.len;
         if kind == TokenKind::TEXT {
             source = first_source(start, used, source, i);
-            used = copy_part(text, from, len, pool, used);
+            copy_part(text, from, len, pool, used);
+            used = used + len;
         } else {
             count = flush_text(ws, count, start, used, source);
             used = put_token(text, ws, pool, i, kind, from, len, count, used);

@@ -3,7 +3,7 @@ use borrow.Author.Needs.{needs}
 use lib.ListN.{length}
 use Prim.Native.Nat.{_-_}
 use Rattle.lexer.proofs.Lefts.{next-less}
-use Rattle.lexer.proofs.Fills.{Filling, fill-start, flush-fits, fill-end, part-here, pool-fits, fill-text, put-fits, count-word, fill-token}
+use Rattle.lexer.proofs.Fills.{Filling, fill-start, flush-fits, fill-end, pool-fits, used-word, fill-text, put-fits, count-word, fill-token}
 use Rattle.lexer.proofs.fill.Statement.{statement}
 use Rattle.lexer.proofs.fill.Tie as tie
 
@@ -16,14 +16,17 @@ abbrev μ-loop : tie.MeasureT-loop
 loop-holds : tie.Need-loop-holds Inv-loop μ-loop
 loop-holds c = search fill-start
 
-lexeme-at-requires : tie.Need-lexeme-at-requires Inv-loop μ-loop
-lexeme-at-requires c κs = search needs
+piece-at-requires : tie.Need-piece-at-requires Inv-loop μ-loop
+piece-at-requires c κs = search needs
 
 first-source-requires : tie.Need-first-source-requires Inv-loop μ-loop
 first-source-requires c κs = search needs
 
 copy-part-requires : tie.Need-copy-part-requires Inv-loop μ-loop
-copy-part-requires c κs = (search part-here, search pool-fits)
+copy-part-requires c κs = search pool-fits
+
+add-used : tie.Need-add-used Inv-loop μ-loop
+add-used c = record { fits = search used-word }
 
 flush-text-requires : tie.Need-flush-text-requires Inv-loop μ-loop
 flush-text-requires c κs = search flush-fits
@@ -65,9 +68,10 @@ fill-spec =
     Inv-loop
     μ-loop
     loop-holds
-    lexeme-at-requires
+    piece-at-requires
     first-source-requires
     copy-part-requires
+    add-used
     flush-text-requires
     put-token-requires
     add-count

@@ -15,8 +15,8 @@ abbrev μ-loop : tie.MeasureT-loop
 loop-holds : tie.Need-loop-holds Inv-loop μ-loop
 loop-holds c = search left-start
 
-lexeme-at-requires : tie.Need-lexeme-at-requires Inv-loop μ-loop
-lexeme-at-requires c κs = search needs
+piece-at-requires : tie.Need-piece-at-requires Inv-loop μ-loop
+piece-at-requires c κs = search needs
 
 error-at-requires : tie.Need-error-at-requires Inv-loop μ-loop
 error-at-requires c κs = search needs
@@ -40,7 +40,7 @@ find-refusal-spec =
     Inv-loop
     μ-loop
     loop-holds
-    lexeme-at-requires
+    piece-at-requires
     error-at-requires
     returns
     loop-less

@@ -23,6 +23,9 @@ put4-requires c κs = search needs
 copy-part-requires : tie.Need-copy-part-requires
 copy-part-requires c κs = search needs
 
+add-result : tie.Need-add-result
+add-result c = search needs
+
 same-length : tie.Need-same-length
 same-length c = search needs
 
@@ -63,6 +66,7 @@ put-token-spec =
     cast-put4-3
     put4-requires
     copy-part-requires
+    add-result
     same-length
     same-length-2
     returns

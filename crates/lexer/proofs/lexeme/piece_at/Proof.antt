@@ -1,0 +1,23 @@
+-- `lexer::lexeme::piece_at` meets its contract. Assumes nothing.
+use Rattle.lexer.proofs.Lexemes.{reads-run, reads-one}
+use borrow.Author.Needs.{needs}
+use Rattle.lexer.proofs.lexeme.piece_at.Statement.{statement}
+use Rattle.lexer.proofs.lexeme.piece_at.Tie as tie
+
+text-end-requires : tie.Need-text-end-requires
+text-end-requires c κs = search needs
+
+sub-t5 : tie.Need-sub-t5
+sub-t5 c = search needs
+
+returns : tie.Need-returns
+returns c = search reads-run
+
+lexeme-at-requires : tie.Need-lexeme-at-requires
+lexeme-at-requires c κs = search needs
+
+returns-2 : tie.Need-returns-2
+returns-2 c = search reads-one
+
+pub piece-at-spec : {M : Type 1} → statement M
+piece-at-spec = tie.close (tie.spec text-end-requires sub-t5 returns lexeme-at-requires returns-2)
