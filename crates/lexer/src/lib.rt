@@ -1,5 +1,5 @@
 // From bytes to tokens (document 01, "Lexing"; upstream lexer.rs): a pass that looks for the first refusal, and a pass that fills workspace and pool.
-mod lexeme;
+pub mod lexeme;
 
 ghost use mathlib.Core.Path.{_≡_};
 ghost use Prim.Native.Nat.{_+_, _*_, _≤_};
