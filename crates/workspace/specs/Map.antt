@@ -16,8 +16,9 @@ use mathlib.Core.Option.{Option, none, some}
 use lib.Dec.{eqb}
 use lib.ListN.{length, getD, take, drop}
 use Rattle.rules.specs.Bytes.{pick}
-use Rattle.rules.specs.Tokens.{Token, isA}
+use Rattle.rules.specs.Tokens.{Token, isA, Variable}
 use Rattle.rules.specs.Lines.{Part, asPart, Template, string, list, isString, Assignment, Field, File, fieldAt}
+use Rattle.rules.specs.Variables.{Piece, text, ref, rankOf}
 use Rattle.tokens.specs.Entries.{decode, tokenAt}
 
 -- column k of n entries
@@ -83,14 +84,39 @@ variablesIn n count v ws pool = map (variableAt (decode count ws pool) (startsOf
 unfoldable pub fieldIn : ℕ → ℕ → List ℕ → List ℕ → ℕ → Option Field
 fieldIn n count ws pool f = fieldOfEntry (decode count ws pool) (startsOf n ws) (endsOf n ws) f (getD ws (12 * n + f) 0)
 
+-- token t as a piece, where it refers to the variable of this rank
+abbrev pub pieceOf : ℕ → Token → Piece
+pieceOf rank t = pick (isA Variable t) (ref t rank) (text (t .text))
+
+-- the pieces of tokens with their ranks, without those that were dropped
+unfoldable pub piecesOf : List ℕ → List Token → List Piece
+piecesOf ranks [] = []
+piecesOf ranks (t ∷ ts) = pick (isA Dropped t) (piecesOf (drop 1 ranks) ts) (pieceOf (getD ranks 0 0) t ∷ piecesOf (drop 1 ranks) ts)
+
+abbrev pub piecesBetween : List Token → List ℕ → ℕ → ℕ → List Piece
+piecesBetween ts ranks from to = piecesOf (drop from ranks) (between ts from to)
+
+-- the pieces of the variable whose key is token k
+abbrev pub ruleAt : List Token → List ℕ → List ℕ → List ℕ → ℕ → List Piece
+ruleAt ts ranks starts ends k = piecesBetween ts ranks (getD starts k 0) (getD ends k 0)
+
+-- each variable's pieces, by rank
+unfoldable pub rulesIn : ℕ → ℕ → ℕ → List ℕ → List ℕ → List (List Piece)
+rulesIn n count v ws pool = map (ruleAt (decode count ws pool) (ranksOf n ws) (startsOf n ws) (endsOf n ws)) (keysOf n v ws)
+
+-- the column of ranks is right: each reference has its variable's rank among vs
+abbrev pub Looked : ℕ → ℕ → List ℕ → List ℕ → List Assignment → Type 0
+Looked n count ws pool vs = (j : ℕ) → j < count → isA Variable (tokenAt (decode count ws pool) j) ≡ true
+    → getD (ranksOf n ws) j 0 ≡ rankOf (tokenAt (decode count ws pool) j .text) vs
+
 -- workspace and pool hold the file: `count` tokens and v variables
 pub record Holds (n count v : ℕ) (ws pool : List ℕ) (file : File) : Type 0 where
   pub variables : variablesIn n count v ws pool ≡ file .variables
   pub fields : (f : ℕ) → 1 ≤ f → f ≤ 10 → fieldIn n count ws pool f ≡ fieldAt f (file .fields)
 
--- the room that all layers have
+-- the room that all layers have; an assignment is a key, `=` and a newline, but for the last
 pub record Room (n count v : ℕ) (ws : List ℕ) : Type 0 where
   pub small : n ≤ 65535
   pub room : 12 * n + 64 ≤ length ws
   pub tokens : count ≤ n
-  pub few : v ≤ count
+  pub few : 3 * v ≤ count + 1
