@@ -1,17 +1,15 @@
 -- The order of two names says which stands before the other and whether they are the same. Assumes nothing.
-use Prim.Native.Nat.{ℕ, _+_, _<_, _≤_}
+use Prim.Native.Nat.{ℕ, _<_, _≤_}
 use mathlib.Core.Path.{_≡_, refl, sym, _∙_, ap}
 use mathlib.Core.Bool.{Bool, true, false}
 use mathlib.Core.List.{List, [], _∷_}
 use native.Mathlib.Omega.{arith}
 use lib.Dec.{ltb, eqb}
-use lib.ListN.{length, getD, drop, drop-of-length-le}
 use borrow.Author.Tests.{ltb-true, ltb-false, lt-ltb, le-ltb, eq-eqb, ne-eqb}
 use Rattle.rules.specs.Bytes.{pick, before, same}
 use Rattle.scan.specs.declared.order.Order.{Order}
 use Rattle.scan.specs.declared.order.Order.the-variants.{Less, Equal, Greater}
 use Rattle.scan.specs.Orders.{orderOf}
-use Rattle.scan.proofs.Lists.{rest-at}
 
 unfoldable pub isLess : Order → Bool
 isLess Less = true

@@ -1,6 +1,6 @@
 -- Laws of runs of stores, `puts`, and of an overwritten front, `overwrite`. Assumes nothing.
 -- Only what speaks of the values stored asks that they fit; what is left as it was asks nothing of the length.
-use Prim.Native.Nat.{ℕ, zero, suc, _+_, _-_, _≤_, _<_}
+use Prim.Native.Nat.{ℕ, suc, _+_, _-_, _≤_, _<_}
 use mathlib.Core.Path.{_≡_, refl, sym, _∙_, ap}
 use mathlib.Core.List.{List, [], _∷_, _++_, append-assoc}
 use native.Mathlib.Nat.{add-zero, zero-add, add-assoc}
