@@ -152,7 +152,7 @@ module _ (b : ℕ) (h : 256 ≤ b) where
   unfolding isLineEnd is
   not-line-end = rw (not-is 10 (omega arith), not-is 13 (omega arith))
 
-  is-other : class b ≡ other
+  pub is-other : class b ≡ other
   unfolding class is pick
   is-other =
       rw (
