@@ -1,0 +1,3 @@
+pub mod SumLaws
+pub mod Advances
+pub mod FieldSums

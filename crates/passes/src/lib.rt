@@ -1,0 +1,2 @@
+// The passes on lengths (resolve_variables of upstream).
+pub mod sums;
