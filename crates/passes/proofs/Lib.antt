@@ -1,0 +1,5 @@
+pub mod SumLaws
+pub mod Advances
+pub mod FieldSums
+pub mod States
+pub mod Turns
