@@ -5,3 +5,4 @@ pub mod States
 pub mod Turns
 pub mod PassLaws
 pub mod RunLaws
+pub mod Corollary
