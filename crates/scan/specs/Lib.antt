@@ -1,0 +1,3 @@
+pub mod Classes
+pub mod Stores
+pub mod Orders
