@@ -14,7 +14,7 @@ use Rattle.rules.proofs.Lengths.{Sum, boundedSum, add, add-missing, add-more, L
 use Rattle.tokens.specs.Entries.{decode, tokenAt}
 use Rattle.workspace.specs.Map.{rulesIn, lengthsOf, Room}
 use Rattle.workspace.proofs.Links.{rules-length}
-use Rattle.passes.specs.Visits.{rule, State, Visits, zeros, passFrom, Steps}
+use Rattle.passes.specs.Visits.{rule, State, Visits, zeros, passFrom, Steps, Beyond}
 use Rattle.passes.proofs.States.{few, column-length}
 use Rattle.passes.specs.declared.visits.Visited.{Visited}
 use Rattle.passes.specs.declared.visits.Visited.the-variants as Vis
@@ -51,35 +51,44 @@ module _ {n count v : ℕ} {pool ws : List ℕ} (S : State n count v pool ws ws)
   next : drop i (rulesIn n count v ws pool) ≡ rule n count v ws pool i ∷ drop (suc i) (rulesIn n count v ws pool)
   next = rule-next (S .room) pool i h
 
-  pub step-valued : (x ≡ 0 → ⊥) → State n count v pool ws ws × Steps n count v pool ws ws i Vis.Blocked
+  pub step-valued : (x ≡ 0 → ⊥) → State n count v pool ws ws × Steps n count v pool ws ws i Vis.Known × Beyond n ws ws
   step-valued z =
       let y = nonzero x z in (
         S,
         (
           refl,
+          λ q. z (e ∙ q),
           λ f. rw (next, add-one) (lens-valued i (rule n count v ws pool i) (drop (suc i) (rulesIn n count v ws pool)) f (lengthsOf n v ws) (y .0) (sym e ∙ y .1)),
-          λ q. absurd (z (e ∙ q)),
         ),
+        refl,
       )
 
-  pub step-visited : x ≡ 0 → (ws′ : List ℕ) (r : Visited) → State n count v pool ws ws′ × Visits n count v pool ws ws′ i r → State n count v pool ws ws′ × Steps n count v pool ws ws′ i r
+  pub step-visited : x ≡ 0 → (ws′ : List ℕ) (r : Visited) → State n count v pool ws ws′ × Visits n count v pool ws ws′ i r × Beyond n ws ws′
+      → State n count v pool ws ws′ × Steps n count v pool ws ws′ i r × Beyond n ws ws′
   step-visited z ws′ Vis.Over a =
-      (a .0, λ f. rw next (lens-over i (rule n count v ws pool i) (drop (suc i) (rulesIn n count v ws pool)) f (lengthsOf n v ws) (sym e ∙ z) (a .1)))
-  step-visited z ws′ Vis.Blocked a = (
+      (a .0, λ f. rw next (lens-over i (rule n count v ws pool i) (drop (suc i) (rulesIn n count v ws pool)) f (lengthsOf n v ws) (sym e ∙ z) (a .1)), a .2)
+  step-visited z ws′ Vis.Known a = absurd (a .1)
+  step-visited z ws′ (Vis.Blocked k) a = (
     a .0,
     (
       a .1 .0,
-      λ f. rw (next, add-one) (lens-missing i (rule n count v ws pool i) (drop (suc i) (rulesIn n count v ws pool)) f (lengthsOf n v ws) (a .1 .1 .0) (sym e ∙ z) (a .1 .1 .1)),
-      λ q. a .1 .1,
+      a .1 .1,
+      a .1 .2,
+      a .1 .3,
+      λ f. rw (next, add-one) (lens-missing i (rule n count v ws pool i) (drop (suc i) (rulesIn n count v ws pool)) f (lengthsOf n v ws) (tokenAt (decode count ws pool) k) (sym e ∙ z) (a .1 .4)),
     ),
+    a .2,
   )
   step-visited z ws′ Vis.Valued a = (
     a .0,
     (
+      a .1 .0,
       rw (a .1 .2) (zeros-set (lengthsOf n v ws) i (a .1 .0) (omega (arith, column-length (S .room) (8 * n) (omega arith))) (sym e ∙ z)),
+      a .1 .2,
+      a .1 .3,
       λ f. rw (next, add-one, a .1 .2) (lens-sum i (rule n count v ws pool i) (drop (suc i) (rulesIn n count v ws pool)) f (lengthsOf n v ws) (a .1 .0) (sym e ∙ z) (a .1 .1)),
-      (a .1 .0, a .1 .2),
     ),
+    a .2,
   )
 
 -- what is missing is what the rules say is lacking
