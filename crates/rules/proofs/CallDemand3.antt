@@ -17,7 +17,7 @@ use Rattle.rules.specs.Demand3.{TooLarge, Lacks, Numbered, ForVariable, 
 use Rattle.rules.proofs.TableLaws.{file-sorted}
 use Rattle.rules.proofs.Demand3Laws.{too-large-exactly, lacks-exactly, resolve-exactly, reading-refused}
 use Rattle.rules.proofs.Stronger.{OneOf, one-of}
-use Rattle.rules.proofs.RefusalLaws.{Stage, stage, resolving, Only, OnLines, OnFields, file-only, fields-only, afterVariables, reading-resolved, reading-variable}
+use Rattle.rules.proofs.RefusalLaws.{Stage, stage, resolving, Only, OnLines, OnFields, only-map, file-only, fields-only, afterVariables, reading-resolved, reading-variable}
 use Rattle.rules.proofs.CallLaws.{Ready, Checked, checked, read-on}
 
 -- what 15 and 16 were given for
@@ -47,23 +47,22 @@ late (ContentTooLarge w) h = record { while = w; at = refl; value = refl }
 
 -- no text is refused for a field of number 0
 abbrev Somewhere : Stage → Type 0
+Somewhere Stage.atLexing = Unit {0}
 Somewhere Stage.atLines = Unit {0}
 Somewhere Stage.atVariables = Unit {0}
 Somewhere (Stage.atField f) = 0 < f
 
 from-lines : (s : Stage) → OnLines s → Somewhere s
+from-lines Stage.atLexing h = tt
 from-lines Stage.atLines h = tt
 from-lines Stage.atVariables h = tt
 from-lines (Stage.atField f) h = absurd h
 
 from-fields : (s : Stage) → OnFields s → Somewhere s
+from-fields Stage.atLexing h = tt
 from-fields Stage.atLines h = tt
 from-fields Stage.atVariables h = tt
 from-fields (Stage.atField f) h = h
-
-only-map : {A : Type 0} (r : Result A) (P Q : Stage → Type 0) → ((s : Stage) → P s → Q s) → Only P r → Only Q r
-only-map (refused r) P Q f h = f (stage r) h
-only-map (ok a) P Q f h = tt
 
 only-then : {A B : Type 0} (r : Result A) (f : A → Result B) → Only Somewhere r → ((a : A) → Only Somewhere (f a)) → Only Somewhere (r >>= f)
 unfolding _>>=_

@@ -380,3 +380,17 @@ prints-longest = refl
 pub prints-too-long : pclist (replicate 5000 35) ≡ bytes "pc 2 0\n"
 unfolding called
 prints-too-long = refl
+
+-- `a` has 64 bytes and each later name twice those of the one before it: `j` has 32,768
+abbrev nine : List ℕ
+nine = bytes "a=aaaaaaaaaaaaaaaaaaaaaaaaaaaaaaaaaaaaaaaaaaaaaaaaaaaaaaaaaaaaaaaa\nb=${a}${a}\nc=${b}${b}\nd=${c}${c}\ne=${d}${d}\nf=${e}${e}\ng=${f}${f}\nh=${g}${g}\ni=${h}${h}\nj=${i}${i}\n"
+
+-- the need of records that do not fit 65,536 bytes
+pub prints-need : pclist (nine ++ bytes "Name: ${j}${j}") ≡ bytes "pc 17 65542\n"
+unfolding called
+prints-need = refl
+
+-- a value of 65,530 bytes: its record fits, and its line does not
+pub prints-listing-need : pclist (nine ++ bytes "Name: ${j}${i}${h}${g}${f}${e}${d}${c}${b}${a}xxxxxxxxxxxxxxxxxxxxxxxxxxxxxxxxxxxxxxxxxxxxxxxxxxxxxxxxxx") ≡ bytes "pc 17 65539\n"
+unfolding called
+prints-listing-need = refl

@@ -23,3 +23,6 @@ pub mod PTable
 pub mod Promises
 pub mod LimitEdges
 pub mod Cases
+pub mod SourceCases
+pub mod TokenLaws
+pub mod NameLaws

@@ -19,9 +19,9 @@ use Rattle.rules.specs.Reading.{file, recordsOfFile, reading}
 use Rattle.rules.proofs.BytesLaws.{false-true}
 use Rattle.rules.proofs.LexingLaws.{lex-chars, lex-reference, lex-mark, lex-bad}
 
--- what a refusal was given for: before anything is resolved, while a variable is, or while the field of this number is
+-- what a refusal was given for: lexing, the lines, while a variable is, or while the field of this number is
 pub data Stage : Type 0 where
-  atLines atVariables : Stage
+  atLexing atLines atVariables : Stage
   atField : ℕ → Stage
 
 unfoldable pub resolving : WhileResolving → Stage
@@ -29,7 +29,7 @@ resolving (InVariable key) = Stage.atVariables
 resolving (InField f key) = Stage.atField f
 
 unfoldable pub stage : Refusal → Stage
-stage (Lex e at) = Stage.atLines
+stage (Lex e at) = Stage.atLexing
 stage (UnexpectedAtStart t) = Stage.atLines
 stage (UnexpectedAfterKey t) = Stage.atLines
 stage EndedAfterKey = Stage.atLines
@@ -46,13 +46,21 @@ abbrev pub Only : {A : Type 0} → (Stage → Type 0) → Result A → Type 0
 Only P (refused r) = P (stage r)
 Only P (ok a) = Unit {0}
 
+abbrev pub OnLexing : Stage → Type 0
+OnLexing Stage.atLexing = Unit {0}
+OnLexing Stage.atLines = ⊥
+OnLexing Stage.atVariables = ⊥
+OnLexing (Stage.atField f) = ⊥
+
 abbrev pub OnLines : Stage → Type 0
+OnLines Stage.atLexing = Unit {0}
 OnLines Stage.atLines = Unit {0}
 OnLines Stage.atVariables = ⊥
 OnLines (Stage.atField f) = ⊥
 
 -- a field's number is never 0
 abbrev pub OnFields : Stage → Type 0
+OnFields Stage.atLexing = ⊥
 OnFields Stage.atLines = ⊥
 OnFields Stage.atVariables = ⊥
 OnFields (Stage.atField f) = 0 < f
@@ -62,18 +70,18 @@ unfolding _>>=_
 only-bind P (refused r) f h g = h
 only-bind P (ok a) f h g = g a
 
-prepend-only : (ts : List Token) (r : Result (List Token)) → Only OnLines r → Only OnLines (prepend ts r)
+prepend-only : (ts : List Token) (r : Result (List Token)) → Only OnLexing r → Only OnLexing (prepend ts r)
 unfolding prepend
 prepend-only ts (refused r) h = h
 prepend-only ts (ok us) h = tt
 
-lex-only : (bs : List ℕ) (end : ℕ) (g : Gathered) (skip at : ℕ) → Only OnLines (lex end g skip at bs)
+pub lex-only : (bs : List ℕ) (end : ℕ) (g : Gathered) (skip at : ℕ) → Only OnLexing (lex end g skip at bs)
 unfolding lex stage
 lex-only [] end g skip at = tt
 lex-only (b ∷ bs) end g (suc skip) at = lex-only bs end g skip (suc at)
 lex-only (b ∷ bs) end g zero at = go (lexeme (class b) b bs) refl (λ end′ g′ n. lex-only bs end′ g′ n (suc at))
   where
-    go : (l : Lexeme) → lexeme (class b) b bs ≡ l → ((end′ : ℕ) (g′ : Gathered) (n : ℕ) → Only OnLines (lex end′ g′ n (suc at) bs)) → Only OnLines (lex end g 0 at (b ∷ bs))
+    go : (l : Lexeme) → lexeme (class b) b bs ≡ l → ((end′ : ℕ) (g′ : Gathered) (n : ℕ) → Only OnLexing (lex end′ g′ n (suc at) bs)) → Only OnLexing (lex end g 0 at (b ∷ bs))
     go (Lexeme.chars cs n) q ih = rw (lex-chars end g at b bs cs n q) (ih end (gather g cs at) n)
     go (Lexeme.reference name n) q ih =
         rw (lex-reference end g at b bs name n q)
@@ -82,6 +90,16 @@ lex-only (b ∷ bs) end g zero at = go (lexeme (class b) b bs) refl (λ end′ g
         rw (lex-mark end g at b bs kind n q)
         (prepend-only (flush end g ++ (token kind (b ∷ []) 0 at ∷ [])) (lex (end + length (g .text)) nothingYet n (suc at) bs) (ih (end + length (g .text)) nothingYet n))
     go (Lexeme.bad e) q ih = rw (lex-bad end g at b bs e q) tt
+
+from-lexing : (s : Stage) → OnLexing s → OnLines s
+from-lexing Stage.atLexing h = tt
+from-lexing Stage.atLines h = tt
+from-lexing Stage.atVariables h = h
+from-lexing (Stage.atField f) h = h
+
+pub only-map : {A : Type 0} (r : Result A) (P Q : Stage → Type 0) → ((s : Stage) → P s → Q s) → Only P r → Only Q r
+only-map (refused r) P Q f h = f (stage r) h
+only-map (ok a) P Q f h = tt
 
 arguments-only : (ts : List Token) (quote : Token) (escaped : Bool) (current : List Part) (found : List (List Part)) → Only OnLines (arguments quote escaped current found ts)
 unfolding arguments stage
@@ -164,7 +182,7 @@ lines-only (l ∷ ls) x =
 -- lexing and reading lines never refuse for what is being resolved
 pub file-only : (input : List ℕ) → Only OnLines (file input)
 unfolding file tokens
-file-only input = only-bind OnLines (tokens input) (λ ts. readLines noLines (lines ts)) (lex-only input 0 nothingYet 0 0) (λ ts. lines-only (lines ts) noLines)
+file-only input = only-bind OnLines (tokens input) (λ ts. readLines noLines (lines ts)) (only-map (tokens input) OnLexing OnLines from-lexing (lex-only input 0 nothingYet 0 0)) (λ ts. lines-only (lines ts) noLines)
 
 expanded-only : (f : ℕ) (key : Token) (e : Expansion) → 0 < f → Only OnFields (expanded (InField f key) e)
 unfolding expanded stage resolving

@@ -50,7 +50,7 @@ pub class-is : (b : ℕ) (c : Class) → classNumber (class b) ≡ classNumber c
 class-is b c e = sym (by-number (class b)) ∙ ap byNumber e ∙ by-number c
 
 -- the test of bytes that document 01 names for each class; `other` is where the table has 0
-unfoldable pub test : Class → ℕ → Bool
+abbrev pub test : Class → ℕ → Bool
 test other b = eqb (classNumber (class b)) 0
 test identifier b = isIdentifier b
 test blank b = is " " b || is "\t" b
@@ -105,7 +105,7 @@ right c b x = both (eqb x (classNumber (class b))) (agrees c b)
 
 -- the table's rule, computed over all 256 entries
 ruled : (c : Class) → T (every (right c) 0 table)
-unfolding right agrees test class classNumber isIdentifier isLineEnd is within pick
+unfolding right agrees class classNumber isIdentifier isLineEnd is within pick
 ruled other = tt
 ruled identifier = tt
 ruled blank = tt
@@ -152,7 +152,7 @@ module _ (b : ℕ) (h : 256 ≤ b) where
   unfolding isLineEnd is
   not-line-end = rw (not-is 10 (omega arith), not-is 13 (omega arith))
 
-  is-other : class b ≡ other
+  pub is-other : class b ≡ other
   unfolding class is pick
   is-other =
       rw (
@@ -172,7 +172,7 @@ module _ (b : ℕ) (h : 256 ≤ b) where
       )
 
   beyond : (c : Class) → test c b ≡ eqb (classNumber (class b)) (classNumber c)
-  unfolding test classNumber is
+  unfolding classNumber is
   beyond other = refl
   beyond identifier = rw (is-other, not-identifier)
   beyond blank = rw (is-other, not-is 32 (omega arith), not-is 9 (omega arith))
@@ -187,7 +187,7 @@ module _ (b : ℕ) (h : 256 ≤ b) where
   beyond single = rw (is-other, not-is 39 (omega arith))
   beyond double = rw (is-other, not-is 34 (omega arith))
 
--- THE LAW: of any number, the test of a class is whether its class number is the class's. `tests hash b` is `is "#" b ≡ eqb (classNumber (class b)) 11`.
+-- The law of all classes: the test of a class is whether the class number is its own. `tests hash b` is `is "#" b ≡ eqb (classNumber (class b)) (classNumber hash)`.
 pub tests : (c : Class) (b : ℕ) → test c b ≡ eqb (classNumber (class b)) (classNumber c)
 unfolding right agrees
 tests c b = go (ltb b 256) refl
@@ -230,3 +230,21 @@ number-below equals = omega arith
 number-below colon = omega arith
 number-below single = omega arith
 number-below double = omega arith
+
+-- `past` is the class at the end of the text and past it, and nowhere else
+pub past-end : (text : List ℕ) (i : ℕ) → classAt (drop i text) ≡ past → length text ≤ i
+past-end text i e = go (ltb i (length text)) refl
+  where
+    go : (t : Bool) → ltb i (length text) ≡ t → length text ≤ i
+    go true f =
+        let h : i < length text = ltb-true i (length text) f in
+        let z : classNumber (class (getD text i 0)) ≡ 15 = sym (class-in text i h) ∙ e in
+        absurd (omega (arith, number-below (class (getD text i 0))))
+    go false f = ltb-false i (length text) f
+
+pub not-past : (text : List ℕ) (i : ℕ) → (classAt (drop i text) ≡ past → ⊥) → i < length text
+not-past text i n = go (ltb i (length text)) refl
+  where
+    go : (t : Bool) → ltb i (length text) ≡ t → i < length text
+    go true f = ltb-true i (length text) f
+    go false f = absurd (n (class-past text i (ltb-false i (length text) f)))

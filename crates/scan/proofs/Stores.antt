@@ -106,6 +106,11 @@ module _ (l : List ℕ) (i : ℕ) (vs : List ℕ) (fits : i + length vs ≤ leng
   pub getD-stored : (k d : ℕ) → k < length vs → getD (puts l i vs) (i + k) d ≡ getD vs k d
   getD-stored k d h = sym (getD-drop i (puts l i vs) k d) ∙ ap (λ (x : List ℕ). getD x k d) drop-stored ∙ List·getD-append vs (drop (i + length vs) l) d k h
 
+-- what was stored first, where more was stored after it
+pub part-stored-first : (l : List ℕ) (i : ℕ) (vs us : List ℕ) → i + length (vs ++ us) ≤ length l → take (length vs) (drop i (puts l i (vs ++ us))) ≡ vs
+part-stored-first l i vs us h =
+    rw (drop-stored l i (vs ++ us) h, append-assoc vs us (drop (i + length (vs ++ us)) l)) (take-at vs _ (length vs) refl)
+
 -- a run of stores at the front is an overwritten front
 pub puts-front : (l vs : List ℕ) → length vs ≤ length l → puts l 0 vs ≡ overwrite vs l
 unfolding overwrite

@@ -18,6 +18,14 @@ pub fn copy(from: &[u8], to: &mut [u8], at: usize)
     }
 }
 
+// The `len` bytes of `from` from `start` on, as many of them as there are, go to `to` from place `at` on.
+pub fn copy_part(from: &[u8], start: usize, len: usize, to: &mut [u8], at: usize)
+    requires { ⌜ at + len ≤ length (now to) ⌝ }
+    ensures { λ _. ⌜ now (to .exit) ≡ puts (now (to .entry)) at (take len (drop start (now (from .entry)))) ⌝ }
+{
+    copy(crate::column::part(from, start, len), to, at);
+}
+
 // The `len` bytes from place `from` on go to place `at`, which is past them.
 pub fn copy_within(out: &mut [u8], from: usize, len: usize, at: usize)
     requires { ⌜ (from + len ≤ at) × (at + len ≤ length (now out)) ⌝ }

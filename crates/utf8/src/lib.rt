@@ -6,7 +6,7 @@ ghost use Rattle.rules.specs.Utf8.{dueAfter, rows, wellFormed, leading, trailin
 ghost use Rattle.utf8.specs.Dues.{ranges, dueOf, after};
 
 // What is due after a byte: so many bytes, the first of them from the second number to the third and the others from 0x80 to 0xBF. Or no text goes on so.
-pub enum Due {
+enum Due {
     Bytes(u8, u8, u8),
     Never,
 }

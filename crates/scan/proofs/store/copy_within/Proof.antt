@@ -1,3 +1,4 @@
+-- `scan::store::copy_within` meets its contract: what is left to be stored comes to the whole, and what stands before `at` stays. Assumes nothing.
 use Prim.Native.Nat.{_≤_, _-_, _+_}
 use mathlib.Core.Path.{_≡_, _∙_, refl}
 use native.Mathlib.Nat.{add-zero}

@@ -1,0 +1,158 @@
+-- What is left at a place of the text: a lexeme, and what is left at the next. Assumes nothing.
+use Prim.Native.Nat.{ℕ, suc, _+_, _-_, _≤_, _<_}
+use mathlib.Core.Path.{_≡_, refl, ap, sym, _∙_}
+use mathlib.Core.List.{List, [], _∷_, _++_, append-assoc}
+use native.Mathlib.Omega.{arith}
+use native.Mathlib.Decide.{ℕ-discrete}
+use lib.ListN.{length, take, drop, getD, drop-of-length-le}
+use lib.Seq.{drop-drop}
+use borrow.Author.Tests.{ne-eqb, le-leb, lt-leb}
+use Rattle.rules.specs.Bytes.{pick}
+use Rattle.rules.specs.Tokens.{Token, token, Variable, pooled}
+use Rattle.rules.specs.Numbers.{LexError, MissingCloseVariable, InvalidVariableChar, Lex, Result, refused, ok}
+use Rattle.rules.specs.Utf8.{codePoint}
+use Rattle.rules.specs.Lexing.{chars, reference, mark, bad, Gathered, nothingYet, gather, class, flush, prepend, lex, tokens}
+use Rattle.rules.proofs.LexingLaws.{lexeme-fits, lex-chars, lex-reference, lex-mark, lex-bad, lex-skip}
+use Rattle.scan.proofs.Lists.{rest-at}
+use Rattle.tokens.specs.Entries.{poolText}
+use Rattle.lexer.specs.Pieces.{lexemeAt, errorShown, shown, Shows}
+use Rattle.lexer.specs.Inner.{Accepted, made}
+
+pub prepend-nil : (r : Result (List Token)) → prepend [] r ≡ r
+unfolding prepend
+prepend-nil (refused r) = refl
+prepend-nil (ok us) = refl
+
+pub prepend-prepend : (ts us : List Token) (r : Result (List Token)) → prepend ts (prepend us r) ≡ prepend (ts ++ us) r
+unfolding prepend
+prepend-prepend ts us (refused r) = refl
+prepend-prepend ts us (ok vs) = ap ok (sym (append-assoc ts us vs))
+
+lex-here : (text : List ℕ) (i end : ℕ) (g : Gathered) → i < length text → lex end g 0 i (drop i text) ≡ lex end g 0 i (getD text i 0 ∷ drop (i + 1) text)
+lex-here text i end g h = ap (lex end g 0 i) (rest-at text i h)
+
+-- the lexeme at place i, shown by four numbers
+module _ (text : List ℕ) (i kind from len next : ℕ) (h : i < length text) (s : Shows text i (lexemeAt text i) kind from len next) where
+  lex-next : (end : ℕ) (g : Gathered) → lex end g (next - (i + 1)) (suc i) (drop (i + 1) text) ≡ lex end g 0 next (drop next text)
+  lex-next end g =
+      let a : suc i + (next - (i + 1)) ≡ next = omega arith in
+      let b : i + 1 + (next - (i + 1)) ≡ next = omega arith in
+      lex-skip end g (next - (i + 1)) (suc i) (drop (i + 1) text) ∙ rw (drop-drop (next - (i + 1)) (i + 1) text, a, b)
+
+  pub next-less : length text - next < length text - i
+  next-less = omega arith
+
+  pub next-inside : next ≤ length text
+  next-inside = omega arith
+
+  shown-mark : (kind ≡ 1 → ⊥) → (kind ≡ 2 → ⊥) → kind ≤ 9 → lexemeAt text i ≡ mark kind (next - (i + 1))
+  unfolding shown pick
+  shown-mark n q l = s .is-lexeme ∙ rw (ne-eqb kind 1 n, ne-eqb kind 2 q, le-leb kind 9 l)
+
+  mark-above : lexemeAt text i ≡ mark kind (next - (i + 1)) → Variable < kind
+  mark-above x = (rw x at (lexeme-fits (class (getD text i 0)) (getD text i 0) (drop (i + 1) text))) .1
+
+  -- a token that isn't Text
+  pub kind-above : (kind ≡ 1 → ⊥) → kind ≤ 9 → Variable ≤ kind
+  kind-above n l = go (ℕ-discrete kind 2)
+    where
+      go : Dec (kind ≡ 2) → Variable ≤ kind
+      go (yes q) = omega arith
+      go (no q) = let f : Variable < kind = mark-above (shown-mark n q l) in omega arith
+
+  module _ (end : ℕ) (g : Gathered) where
+    pub left-chars : kind ≡ 1 → lex end g 0 i (drop i text) ≡ lex end (gather g (take len (drop from text)) i) 0 next (drop next text)
+    unfolding shown pick
+    left-chars q =
+        let x : lexemeAt text i ≡ chars (take len (drop from text)) (next - (i + 1)) = s .is-lexeme ∙ rw q in
+        lex-here text i end g h ∙ lex-chars end g i (getD text i 0) (drop (i + 1) text) (take len (drop from text)) (next - (i + 1)) x
+        ∙ lex-next end (gather g (take len (drop from text)) i)
+
+    pub left-bad : 9 < kind → lex end g 0 i (drop i text) ≡ refused (Lex (errorShown text kind from) i)
+    unfolding shown pick
+    left-bad q =
+        let x : lexemeAt text i ≡ bad (errorShown text kind from) = s .is-lexeme ∙ rw (ne-eqb kind 1 (λ e. omega arith), ne-eqb kind 2 (λ e. omega arith), lt-leb kind 9 q) in
+        lex-here text i end g h ∙ lex-bad end g i (getD text i 0) (drop (i + 1) text) (errorShown text kind from) x
+
+    pub left-token : (kind ≡ 1 → ⊥) → kind ≤ 9
+        → lex end g 0 i (drop i text)
+        ≡ prepend (flush end g ++ (made text i kind from len (end + length (g .text)) ∷ []))
+        (lex (end + length (g .text) + length (poolText (made text i kind from len (end + length (g .text))))) nothingYet 0 next (drop next text))
+    unfolding shown made pick pooled token
+    left-token n l = go (ℕ-discrete kind 2)
+      where
+        go : Dec (kind ≡ 2)
+            → lex end g 0 i (drop i text)
+            ≡ prepend (flush end g ++ (made text i kind from len (end + length (g .text)) ∷ []))
+            (lex (end + length (g .text) + length (poolText (made text i kind from len (end + length (g .text))))) nothingYet 0 next (drop next text))
+        go (yes q) =
+            let x : lexemeAt text i ≡ reference (take len (drop from text)) (next - (i + 1)) = s .is-lexeme ∙ rw q in
+            lex-here text i end g h ∙ lex-reference end g i (getD text i 0) (drop (i + 1) text) (take len (drop from text)) (next - (i + 1)) x
+            ∙ rw (q, lex-next (end + length (g .text) + length (take len (drop from text))) nothingYet)
+        go (no q) =
+            let x = shown-mark n q l in
+            let z : end + length (g .text) + 0 ≡ end + length (g .text) = omega arith in
+            lex-here text i end g h ∙ lex-mark end g i (getD text i 0) (drop (i + 1) text) kind (next - (i + 1)) x
+            ∙ rw (ne-eqb kind 2 q, lt-leb kind 2 (mark-above x), z, lex-next (end + length (g .text)) nothingYet)
+
+-- what is left at place i: tokens before it, and Text that is being gathered
+pub record Left (text : List ℕ) (i : ℕ) : Type 0 where
+  pub ts : List Token
+  pub end : ℕ
+  pub g : Gathered
+  pub here : i ≤ length text
+  pub rest : tokens text ≡ prepend ts (lex end g 0 i (drop i text))
+
+pub left-start : (text : List ℕ) → Left text 0
+unfolding tokens
+left-start text = record { ts = []; end = 0; g = nothingYet; here = omega arith; rest = sym (prepend-nil (lex 0 nothingYet 0 0 text)) }
+
+module _ (text : List ℕ) (i : ℕ) (L : Left text i) where
+  module _ (kind from len next : ℕ) (h : i < length text) (s : Shows text i (lexemeAt text i) kind from len next) where
+    pub left-more : kind ≤ 9 → Left text next
+    left-more l = go (ℕ-discrete kind 1)
+      where
+        t : Token
+        t = made text i kind from len (L .end + length (L .g .text))
+
+        go : Dec (kind ≡ 1) → Left text next
+        go (yes q) =
+            record {
+              ts = L .ts;
+              end = L .end;
+              g = gather (L .g) (take len (drop from text)) i;
+              here = omega arith;
+              rest = L .rest ∙ ap (prepend (L .ts)) (left-chars text i kind from len next h s (L .end) (L .g) q);
+            }
+        go (no q) =
+            record {
+              ts = L .ts ++ (flush (L .end) (L .g) ++ (t ∷ []));
+              end = L .end + length (L .g .text) + length (poolText t);
+              g = nothingYet;
+              here = omega arith;
+              rest = L .rest ∙ ap (prepend (L .ts)) (left-token text i kind from len next h s (L .end) (L .g) q l)
+                  ∙ prepend-prepend (L .ts) (flush (L .end) (L .g) ++ (t ∷ [])) (lex (L .end + length (L .g .text) + length (poolText t)) nothingYet 0 next (drop next text));
+            }
+
+    pub left-refused : 9 < kind → tokens text ≡ refused (Lex (errorShown text kind from) i)
+    unfolding prepend
+    left-refused l = L .rest ∙ ap (prepend (L .ts)) (left-bad text i kind from len next h s (L .end) (L .g) l)
+
+  pub left-end : length text ≤ i → Accepted text
+  unfolding lex prepend
+  left-end h = record { ts = L .ts ++ flush (L .end) (L .g); is-tokens = L .rest ∙ rw (drop-of-length-le text h) }
+
+-- the error of a reference, by the kind of its lexeme
+module _ (text : List ℕ) (kind from : ℕ) where
+  pub error-open : kind ≡ 10 → MissingCloseVariable ≡ errorShown text kind from
+  unfolding errorShown pick
+  error-open q = rw q
+
+  pub error-char : (c : ℕ) → (kind ≡ 10 → ⊥) → c ≡ codePoint (getD text from 0) (drop (from + 1) text) → InvalidVariableChar c ≡ errorShown text kind from
+  unfolding errorShown pick
+  error-char c n q = rw (ne-eqb kind 10 n, q)
+
+-- the answer of the pass that looks for a refusal
+pub found-bad : (text : List ℕ) (i kind from len next : ℕ) (x : LexError) → Left text i → i < length text → Shows text i (lexemeAt text i) kind from len next → 9 < kind
+    → x ≡ errorShown text kind from → tokens text ≡ refused (Lex x i)
+found-bad text i kind from len next x L h s l q = left-refused text i L kind from len next h s l ∙ ap (λ (y : LexError). refused (Lex y i)) (sym q)

@@ -1,0 +1,5 @@
+pub mod Lexemes
+pub mod Lefts
+pub mod Writes
+pub mod Fills
+pub mod Outcomes

@@ -1,0 +1,40 @@
+-- `lexer::lexeme::name_end` meets its contract. Assumes nothing.
+use Rattle.rules.specs.Lexing.{isIdentifier}
+use Rattle.rules.specs.Bytes.{run}
+use borrow.Author.Needs.{needs}
+use native.Mathlib.Omega.{arith}
+use lib.ListN.{length, drop}
+use mathlib.Core.Path.{_≡_, refl}
+use Prim.Native.Nat.{_+_, _-_, _≤_, _<_}
+use Rattle.lexer.proofs.Lexemes.{name-in, name-more, name-stop}
+use Rattle.lexer.proofs.lexeme.name_end.Statement.{statement}
+use Rattle.lexer.proofs.lexeme.name_end.Tie as tie
+
+abbrev Inv-loop : tie.InvT-loop
+Inv-loop text i j₀ j = (j ≤ length text) × (i + run isIdentifier (drop i text) ≡ j + run isIdentifier (drop j text))
+
+abbrev μ-loop : tie.MeasureT-loop
+μ-loop text i j₀ j = length text - j
+
+loop-holds : tie.Need-loop-holds Inv-loop μ-loop
+loop-holds c = (search needs, refl)
+
+class-at-requires : tie.Need-class-at-requires Inv-loop μ-loop
+class-at-requires c κs = search needs
+
+add-j : tie.Need-add-j Inv-loop μ-loop
+add-j c = let h : c .before .before .loop .j < length (c .before .before .before .before .args .text .now) = search name-in in omega arith
+
+loop-less : tie.Need-loop-less Inv-loop μ-loop
+loop-less c = let h : c .before .before .loop .j < length (c .before .before .before .before .args .text .now) = search name-in in omega arith
+
+loop-again : tie.Need-loop-again Inv-loop μ-loop
+loop-again c = let h : c .before .before .loop .j < length (c .before .before .before .before .args .text .now) = search name-in in (omega arith, search name-more)
+
+returns : tie.Need-returns Inv-loop μ-loop
+returns c = search name-stop
+
+pub name-end-spec : {M : Type 1} → statement M
+name-end-spec =
+    tie.close
+    (tie.spec Inv-loop μ-loop loop-holds class-at-requires add-j loop-less loop-again returns)

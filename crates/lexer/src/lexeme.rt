@@ -1,0 +1,216 @@
+// One lexeme at a place of the text (document 01, "Lexing").
+ghost use mathlib.Core.Path.{_≡_};
+ghost use Prim.Native.Nat.{_+_, _≤_, _<_};
+ghost use lib.ListN.{length, drop, getD};
+ghost use Rattle.rules.specs.Bytes.{run};
+ghost use Rattle.rules.specs.Lexing.{isIdentifier, comment, second, afterBackslash, afterBrace, afterDollar};
+ghost use Rattle.lexer.specs.Pieces.{Shows, lexemeAt};
+use scan::class::ByteClass;
+use scan::class::class_at;
+use tokens::TokenKind;
+
+// One lexeme: its kind, its text, which is the `len` bytes from `from` on, and where the next one starts.
+pub struct Piece {
+    pub kind: u32,
+    pub from: usize,
+    pub len: usize,
+    pub next: usize,
+}
+
+impl Piece {
+    // a reference that isn't closed
+    pub const NOT_CLOSED: u32 = 10;
+
+    // a bad character in a reference, which stands at `from`
+    pub const BAD_CHARACTER: u32 = 11;
+}
+
+// Past the characters of a name.
+fn name_end(text: &[u8], i: usize) -> usize
+    requires { ⌜ i ≤ length (now text) ⌝ }
+    ensures { λ r. ⌜ r ≡ i + run isIdentifier (drop i (now (text .entry))) ⌝ }
+{
+    let mut j = i;
+    while class_at(text, j) == ByteClass::IDENTIFIER {
+        j += 1;
+    }
+    j
+}
+
+// At the next line end, or the end of the text.
+fn comment_end(text: &[u8], i: usize) -> usize
+    requires { ⌜ i ≤ length (now text) ⌝ }
+    ensures { λ r. ⌜ r ≡ i + comment (drop i (now (text .entry))) ⌝ }
+{
+    let mut j = i;
+    while j < text.len() {
+        if class_at(text, j) == ByteClass::LINE_END {
+            return j;
+        }
+        j += 1;
+    }
+    j
+}
+
+// Past the line end at place i: LF CR and CR LF are one.
+fn maybe_consume_second_newline(text: &[u8], i: usize) -> usize
+    requires { ⌜ i < length (now text) ⌝ }
+    ensures { λ r. ⌜ r ≡ i + 1 + second (getD (now (text .entry)) i 0) (drop (i + 1) (now (text .entry))) ⌝ }
+{
+    if class_at(text, i + 1) == ByteClass::LINE_END {
+        if text[i] == text[i + 1] {
+            return i + 1;
+        }
+        return i + 2;
+    }
+    i + 1
+}
+
+// Backslash before `#` is text `#`. Before a line end all vanish and Text goes on. Else it is a token.
+fn backslash_at(text: &[u8], i: usize) -> Piece
+    requires { ⌜ i < length (now text) ⌝ }
+    ensures { λ r. ⌜ Shows (now (text .entry)) i (afterBackslash (drop (i + 1) (now (text .entry)))) (r .kind) (r .from) (r .len) (r .next) ⌝ }
+{
+    let c = class_at(text, i + 1);
+    if c == ByteClass::HASH {
+        return Piece {
+            kind: TokenKind::TEXT,
+            from: i + 1,
+            len: 1,
+            next: i + 2,
+        };
+    }
+    if c == ByteClass::LINE_END {
+        let next = maybe_consume_second_newline(text, i + 1);
+        return Piece {
+            kind: TokenKind::TEXT,
+            from: i,
+            len: 0,
+            next,
+        };
+    }
+    Piece {
+        kind: TokenKind::BACKSLASH,
+        from: i,
+        len: 1,
+        next: i + 1,
+    }
+}
+
+// `${` at place i opens a reference, up to `}`.
+fn reference_at(text: &[u8], i: usize) -> Piece
+    requires { ⌜ i + 2 ≤ length (now text) ⌝ }
+    ensures { λ r. ⌜ Shows (now (text .entry)) i (afterBrace (drop (i + 2) (now (text .entry)))) (r .kind) (r .from) (r .len) (r .next) ⌝ }
+{
+    let end = name_end(text, i + 2);
+    let closing = class_at(text, end);
+    if closing == ByteClass::CLOSE_BRACE {
+        return Piece {
+            kind: TokenKind::VARIABLE,
+            from: i + 2,
+            len: end - (i + 2),
+            next: end + 1,
+        };
+    }
+    if closing == ByteClass::PAST {
+        return Piece {
+            kind: Piece::NOT_CLOSED,
+            from: end,
+            len: 0,
+            next: end,
+        };
+    }
+    Piece {
+        kind: Piece::BAD_CHARACTER,
+        from: end,
+        len: 0,
+        next: end,
+    }
+}
+
+// `$$` is text `$`. `$` before anything else but `{` puts both into Text. `$` at the end is text `$`.
+fn dollar_at(text: &[u8], i: usize) -> Piece
+    requires { ⌜ i < length (now text) ⌝ }
+    ensures { λ r. ⌜ Shows (now (text .entry)) i (afterDollar (getD (now (text .entry)) i 0) (drop (i + 1) (now (text .entry)))) (r .kind) (r .from) (r .len) (r .next) ⌝ }
+{
+    let c = class_at(text, i + 1);
+    if c == ByteClass::OPEN_BRACE {
+        return reference_at(text, i);
+    }
+    if c == ByteClass::DOLLAR {
+        return Piece {
+            kind: TokenKind::TEXT,
+            from: i,
+            len: 1,
+            next: i + 2,
+        };
+    }
+    if c == ByteClass::PAST {
+        return Piece {
+            kind: TokenKind::TEXT,
+            from: i,
+            len: 1,
+            next: i + 1,
+        };
+    }
+    Piece {
+        kind: TokenKind::TEXT,
+        from: i,
+        len: 2,
+        next: i + 2,
+    }
+}
+
+// The lexeme at place i, by the class of its first byte. The classes from BLANK up to DOUBLE are the kinds of their tokens.
+pub fn lexeme_at(text: &[u8], i: usize) -> Piece
+    requires { ⌜ i < length (now text) ⌝ }
+    ensures { λ r. ⌜ Shows (now (text .entry)) i (lexemeAt (now (text .entry)) i) (r .kind) (r .from) (r .len) (r .next) ⌝ }
+{
+    let first = class_at(text, i);
+    if first < ByteClass::BLANK {
+        return Piece {
+            kind: TokenKind::TEXT,
+            from: i,
+            len: 1,
+            next: i + 1,
+        };
+    }
+    if first < ByteClass::BACKSLASH {
+        return Piece {
+            kind: first as u32,
+            from: i,
+            len: 1,
+            next: i + 1,
+        };
+    }
+    if first == ByteClass::BACKSLASH {
+        return backslash_at(text, i);
+    }
+    if first == ByteClass::LINE_END {
+        let next = maybe_consume_second_newline(text, i);
+        return Piece {
+            kind: TokenKind::NEW_LINE,
+            from: i,
+            len: 1,
+            next,
+        };
+    }
+    if first == ByteClass::DOLLAR {
+        return dollar_at(text, i);
+    }
+    if first == ByteClass::HASH {
+        let next = comment_end(text, i + 1);
+        return Piece {
+            kind: TokenKind::TEXT,
+            from: i,
+            len: 0,
+            next,
+        };
+    }
+    Piece {
+        kind: TokenKind::TEXT,
+        from: i,
+        len: 1,
+        next: i + 1,
+    }
+}

@@ -1,0 +1,182 @@
+// From bytes to tokens (document 01, "Lexing"; upstream lexer.rs): a pass that looks for the first refusal, and a pass that fills workspace and pool.
+pub mod lexeme;
+
+ghost use mathlib.Core.Path.{_≡_};
+ghost use Prim.Native.Nat.{_+_, _*_, _≤_};
+ghost use lib.ListN.{length, take, drop};
+ghost use lib.Dec.{eqb};
+ghost use Rattle.rules.specs.Bytes.{pick};
+ghost use Rattle.scan.specs.Stores.{puts};
+ghost use Rattle.tokens.specs.Entries.{entry, poolText};
+ghost use Rattle.lexer.specs.Lexes.{Room, Holds, Lexes, errorOf};
+ghost use Rattle.lexer.specs.Pieces.{errorShown};
+ghost use Rattle.lexer.specs.Inner.{Judges, Fillable, flushed, flushedCount, FlushRoom, made, PutRoom};
+use lexeme::Piece;
+use lexeme::lexeme_at;
+use scan::column::part;
+use scan::store::copy;
+use scan::store::put4;
+use tokens::TokenKind;
+use utf8::code_point_at;
+
+// Why a text can't be lexed.
+pub enum LexError {
+    MissingCloseVariable,
+    // with the code point
+    InvalidVariableChar(u32),
+}
+
+pub enum Lexed {
+    // the number of tokens, and of bytes in the pool
+    Tokens(usize, usize),
+    // with the place of the `$`
+    Refused(LexError, usize),
+}
+
+pub enum Verdict {
+    Fine,
+    Bad(LexError, usize),
+}
+
+// The error of a reference, by the kind of its lexeme.
+fn error_at(text: &[u8], kind: u32, from: usize) -> LexError
+    ensures { λ r. ⌜ errorOf r ≡ errorShown (now (text .entry)) kind from ⌝ }
+{
+    if kind == Piece::NOT_CLOSED {
+        return LexError::MissingCloseVariable;
+    }
+    let c = code_point_at(text, from);
+    LexError::InvalidVariableChar(c)
+}
+
+fn find_refusal(text: &[u8]) -> Verdict
+    ensures { λ r. ⌜ Judges (now (text .entry)) r ⌝ }
+{
+    let mut i = 0;
+    while i < text.len() {
+        let p = lexeme_at(text, i);
+        let kind = p.kind;
+        if TokenKind::NEW_LINE < kind {
+            let from = p.from;
+            let e = error_at(text, kind, from);
+            return Verdict::Bad(e, i);
+        }
+        i = p.next;
+    }
+    Verdict::Fine
+}
+
+// Where gathered Text has its first byte from, as more comes from place `at`.
+fn first_source(start: usize, used: usize, source: usize, at: usize) -> usize
+    ensures { λ r. ⌜ r ≡ pick (eqb start used) at source ⌝ }
+{
+    if start == used { at } else { source }
+}
+
+// A part of the text goes into the pool, whose end is `used`. Returns the new end.
+fn copy_part(text: &[u8], from: usize, len: usize, pool: &mut [u8], used: usize) -> usize
+    requires { ⌜ (from + len ≤ length (now text)) × (used + len ≤ length (now pool)) ⌝ }
+    ensures { λ r. ⌜ (r ≡ used + len) × (now (pool .exit) ≡ puts (now (pool .entry)) used (take len (drop from (now (text .entry))))) ⌝ }
+{
+    let s = part(text, from, len);
+    copy(s, pool, used);
+    used + len
+}
+
+// Gathered Text ends: its token, where there is any. Returns the number of tokens.
+fn flush_text(ws: &mut [u32], count: usize, start: usize, used: usize, source: usize) -> usize
+    requires { ⌜ FlushRoom (now ws) count start used source ⌝ }
+    ensures { λ r. ⌜ (r ≡ count + flushedCount start used) × (now (ws .exit) ≡ puts (now (ws .entry)) (4 * count) (flushed start used source)) ⌝ }
+{
+    if start < used {
+        put4(
+            ws,
+            4 * count,
+            TokenKind::TEXT,
+            start as u32,
+            (used - start) as u32,
+            source as u32,
+        );
+        return count + 1;
+    }
+    count
+}
+
+// A token that isn't Text, at place i. Returns the pool's end.
+fn put_token(
+    text: &[u8],
+    ws: &mut [u32],
+    pool: &mut [u8],
+    i: usize,
+    kind: u32,
+    from: usize,
+    len: usize,
+    count: usize,
+    used: usize,
+) -> usize
+    requires { ⌜ PutRoom (now text) (now ws) (now pool) i kind from len count used ⌝ }
+    ensures { λ r. ⌜ (r ≡ used + length (poolText (made (now (text .entry)) i kind from len used)))
+        × (now (ws .exit) ≡ puts (now (ws .entry)) (4 * count) (entry (made (now (text .entry)) i kind from len used)))
+        × (now (pool .exit) ≡ puts (now (pool .entry)) used (poolText (made (now (text .entry)) i kind from len used))) ⌝ }
+{
+    if kind == TokenKind::VARIABLE {
+        put4(ws, 4 * count, kind, used as u32, len as u32, i as u32);
+        return copy_part(text, from, len, pool, used);
+    }
+    let b = text[i] as u32;
+    put4(ws, 4 * count, kind, b, 1, i as u32);
+    used
+}
+
+pub struct Filled {
+    pub count: usize,
+    pub used: usize,
+}
+
+// The tokens of a text that isn't refused.
+fn fill(text: &[u8], ws: &mut [u32], pool: &mut [u8]) -> Filled
+    requires { ⌜ Fillable (now text) (now ws) (now pool) ⌝ }
+    ensures { λ r. ⌜ Holds (now (text .entry)) (now (ws .entry)) (now (ws .exit)) (now (pool .entry)) (now (pool .exit)) (r .count) (r .used) ⌝ }
+{
+    let mut i = 0;
+    let mut count = 0;
+    let mut start = 0;
+    let mut used = 0;
+    let mut source = 0;
+    while i < text.len() {
+        let p = lexeme_at(text, i);
+        let kind = p.kind;
+        let from = p.from;
+        let len = p.len;
+        if kind == TokenKind::TEXT {
+            source = first_source(start, used, source, i);
+            used = copy_part(text, from, len, pool, used);
+        } else {
+            count = flush_text(ws, count, start, used, source);
+            used = put_token(text, ws, pool, i, kind, from, len, count, used);
+            count = count + 1;
+            start = used;
+            source = 0;
+        }
+        i = p.next;
+    }
+    count = flush_text(ws, count, start, used, source);
+    Filled { count, used }
+}
+
+// The whole text. Nothing is written where it is refused.
+pub fn lex(text: &[u8], ws: &mut [u32], pool: &mut [u8]) -> Lexed
+    requires { ⌜ Room (now text) (now ws) (now pool) ⌝ }
+    ensures { λ r. ⌜ Lexes (now (text .entry)) (now (ws .entry)) (now (ws .exit)) (now (pool .entry)) (now (pool .exit)) r ⌝ }
+{
+    let v = find_refusal(text);
+    match v {
+        Verdict::Bad(e, at) => Lexed::Refused(e, at),
+        Verdict::Fine => {
+            let f = fill(text, ws, pool);
+            let count = f.count;
+            let used = f.used;
+            Lexed::Tokens(count, used)
+        }
+    }
+}

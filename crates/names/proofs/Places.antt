@@ -1,0 +1,231 @@
+-- The search for the place of a name among those in byte order, and what the place says. Assumes nothing.
+use Prim.Native.Nat.{ℕ, zero, suc, _+_, _*_, _-_, _≤_, _<_}
+use mathlib.Core.Path.{_≡_, refl, sym, _∙_, ap}
+use mathlib.Core.Bool.{Bool, true, false}
+use mathlib.Core.List.{List, [], _∷_, _++_, map}
+use native.Mathlib.Omega.{arith}
+use lib.Dec.{leb}
+use lib.ListN.{length, getD, take, drop, length-map, length-drop}
+use lib.Seq.{getD-take, length-take-le}
+use borrow.Author.Tests.{eqb-true}
+use Rattle.rules.specs.Bytes.{pick, same, before}
+use Rattle.rules.proofs.BytesLaws.{same-eq, same-refl, false-true, Before, before-is, is-before, before-irrefl, before-trans, before-total}
+use Rattle.rules.specs.Tokens.{Token, isA, Text, pooled}
+use Rattle.rules.specs.Lines.{Assignment, assigned, insert}
+use Rattle.rules.proofs.TableLaws.{After, Sorted, or-false}
+use Rattle.rules.specs.Variables.{rankOf, keyAt}
+use Rattle.scan.specs.declared.order.Order.{Order}
+use Rattle.scan.specs.Orders.{orderOf}
+use Rattle.scan.proofs.Orders.{isLess, isEqual, told-before, told-same}
+use Rattle.tokens.specs.Entries.{decode, tokenAt, poolText}
+use Rattle.workspace.specs.Map.{keysOf, startsOf, endsOf, variableAt, variablesIn}
+use Rattle.names.specs.Store.{placeFor, isBefore, isSame, All, Texts, Searchable, isAssigned}
+
+by-not-true : (b : Bool) → (b ≡ true → ⊥) → b ≡ false
+by-not-true true h = absurd (h refl)
+by-not-true false h = refl
+
+-- what stands after a name that is not before the key isn't either
+after-before : (key : List ℕ) (a : List ℕ) (vs : List Assignment) (i : ℕ) → i < length vs → After a vs → Before a (keyAt vs i .text)
+unfolding keyAt
+after-before key a [] i h x = absurd (omega arith)
+after-before key a (v ∷ vs) zero h x = x .0
+after-before key a (v ∷ vs) (suc i) h x = after-before key a vs i (omega arith) (x .1)
+
+pub down : (vs : List Assignment) (key : List ℕ) → Sorted vs → (i j : ℕ) → i ≤ j → j < length vs → isBefore vs key j ≡ true → isBefore vs key i ≡ true
+unfolding keyAt
+down [] key s i j p h q = absurd (omega arith)
+down (v ∷ vs) key s zero zero p h q = q
+down (v ∷ vs) key s zero (suc j) p h q = is-before (before-trans (after-before key (v .key .text) vs j (omega arith) (s .0)) (before-is (keyAt vs j .text) key q))
+down (v ∷ vs) key s (suc i) zero p h q = absurd (omega arith)
+down (v ∷ vs) key s (suc i) (suc j) p h q = down vs key (s .1) i j (omega arith) (omega arith) q
+
+-- a search's bracket: p holds below lo, and not from hi on
+pub record Bracket (p : ℕ → Bool) (n lo hi : ℕ) : Type 0 where
+  pub lo-le : lo ≤ hi
+  pub hi-le : hi ≤ n
+  pub below : (k : ℕ) → k < lo → p k ≡ true
+  pub above : (k : ℕ) → hi ≤ k → k < n → p k ≡ false
+
+module _ (vs : List Assignment) (key : List ℕ) (n lo hi : ℕ) (l : length vs ≡ n) (s : Sorted vs) (b : Bracket (isBefore vs key) n lo hi) (m : ℕ) (p : lo ≤ m) (h : m < hi) where
+  pub go-up : isBefore vs key m ≡ true → Bracket (isBefore vs key) n (m + 1) hi
+  go-up t = record { lo-le = omega arith; hi-le = b .hi-le; below = λ k q. down vs key s k m (omega arith) (omega (arith, b .hi-le)) t; above = b .above }
+
+  pub go-down : isBefore vs key m ≡ false → Bracket (isBefore vs key) n lo m
+  go-down f = record { lo-le = p; hi-le = omega (arith, b .hi-le); below = b .below; above = λ k q r. by-not-true (isBefore vs key k) (λ t. false-true f (down vs key s m k q (omega arith) t)) }
+
+pub bracket-start : (p : ℕ → Bool) (n : ℕ) → Bracket p n 0 n
+bracket-start p n = record { lo-le = omega arith; hi-le = omega arith; below = λ k q. absurd (omega arith); above = λ k q r. absurd (omega arith) }
+
+-- where the bracket closes stands the rank
+bracket-place : (vs : List Assignment) (key : List ℕ) (r : ℕ) → r ≤ length vs → ((k : ℕ) → k < r → isBefore vs key k ≡ true)
+    → ((k : ℕ) → r ≤ k → k < length vs → isBefore vs key k ≡ false) → r ≡ placeFor key vs
+unfolding placeFor keyAt
+bracket-place [] key r h b a = omega arith
+bracket-place (v ∷ vs) key zero h b a = rw (a 0 (omega arith) (omega arith), placeFor)
+bracket-place (v ∷ vs) key (suc r) h b a =
+    rw (b 0 (omega arith), placeFor) (ap suc (bracket-place vs key r (omega arith) (λ k q. b (suc k) (omega arith)) (λ k p q. a (suc k) (omega arith) (omega arith))))
+
+pub bracket-end : (vs : List Assignment) (key : List ℕ) (n lo hi : ℕ) → length vs ≡ n → hi ≤ lo → Bracket (isBefore vs key) n lo hi → lo ≡ placeFor key vs
+bracket-end vs key n lo hi l e b = bracket-place vs key lo (omega (arith, b .lo-le, b .hi-le)) (b .below) (λ k q r. b .above k (omega arith) (omega arith))
+
+pub place-le : (key : List ℕ) (vs : List Assignment) → placeFor key vs ≤ length vs
+unfolding placeFor
+place-le key [] = omega arith
+place-le key (v ∷ vs) = go (before (v .key .text) key) refl (place-le key vs)
+  where
+    go : (b : Bool) → before (v .key .text) key ≡ b → placeFor key vs ≤ length vs → placeFor key (v ∷ vs) ≤ suc (length vs)
+    go true q ih = rw (q, placeFor) (omega arith)
+    go false q ih = rw (q, placeFor) (omega arith)
+
+same-swap : (a b : List ℕ) → Before a b → same a b ≡ false
+same-swap a b h = by-not-true (same a b) (λ e. before-irrefl b (rw (same-eq a b e) at h))
+
+same-swap′ : (a b : List ℕ) → Before a b → same b a ≡ false
+same-swap′ a b h = by-not-true (same b a) (λ e. before-irrefl a (rw (same-eq b a e) at h))
+
+-- a key before all of them is none of them
+none-after : (key : List ℕ) (vs : List Assignment) → After key vs → (rankOf key vs ≡ length vs) × (assigned key vs ≡ false)
+unfolding rankOf assigned
+none-after key [] x = (refl, refl)
+none-after key (v ∷ vs) x =
+    let e = same-swap key (v .key .text) (x .0) in
+    let ih = none-after key vs (x .1) in
+    (rw (e, rankOf) (ap suc (ih .0)), rw e (ih .1))
+
+after-trans : {a b : List ℕ} (vs : List Assignment) → Before a b → After b vs → After a vs
+after-trans [] h x = tt
+after-trans (v ∷ vs) h x = (before-trans h (x .0), after-trans vs h (x .1))
+
+-- the name at the rank is the key: it's there
+pub place-found : (key : List ℕ) (vs : List Assignment) → Sorted vs → placeFor key vs < length vs → same (keyAt vs (placeFor key vs) .text) key ≡ true
+    → (placeFor key vs ≡ rankOf key vs) × (assigned key vs ≡ true)
+unfolding placeFor rankOf assigned keyAt
+place-found key [] s h e = absurd (omega arith)
+place-found key (v ∷ vs) s h e = go (before (v .key .text) key) refl (λ a b. place-found key vs (s .1) a b)
+  where
+    go : (b : Bool) → before (v .key .text) key ≡ b
+        → (placeFor key vs < length vs → same (keyAt vs (placeFor key vs) .text) key ≡ true → (placeFor key vs ≡ rankOf key vs) × (assigned key vs ≡ true))
+        → (placeFor key (v ∷ vs) ≡ rankOf key (v ∷ vs)) × (assigned key (v ∷ vs) ≡ true)
+    go true q ih =
+        let d = same-swap′ (v .key .text) key (before-is (v .key .text) key q) in
+        let x = ih (omega (arith, rw (q, placeFor) at h)) (rw (q, placeFor) at e) in
+        (rw (q, d, placeFor, rankOf) (ap suc (x .0)), rw d (x .1))
+    go false q ih =
+        let z : same (v .key .text) key ≡ true = rw (q, placeFor) at e in
+        let y : same key (v .key .text) ≡ true = rw (same-eq (v .key .text) key z) (same-refl key) in
+        (rw (q, y, placeFor, rankOf), rw y)
+
+-- it isn't: it's nowhere
+pub place-none : (key : List ℕ) (vs : List Assignment) → Sorted vs → (placeFor key vs < length vs → same (keyAt vs (placeFor key vs) .text) key ≡ false)
+    → (length vs ≡ rankOf key vs) × (assigned key vs ≡ false)
+unfolding placeFor rankOf assigned keyAt
+place-none key [] s e = (refl, refl)
+place-none key (v ∷ vs) s e = go (before (v .key .text) key) refl (λ b. place-none key vs (s .1) b)
+  where
+    go : (b : Bool) → before (v .key .text) key ≡ b
+        → ((placeFor key vs < length vs → same (keyAt vs (placeFor key vs) .text) key ≡ false) → (length vs ≡ rankOf key vs) × (assigned key vs ≡ false))
+        → (suc (length vs) ≡ rankOf key (v ∷ vs)) × (assigned key (v ∷ vs) ≡ false)
+    go true q ih =
+        let d = same-swap′ (v .key .text) key (before-is (v .key .text) key q) in
+        let x = ih (λ a. (rw (q, placeFor) at e) (omega arith)) in
+        (rw (d, rankOf) (ap suc (x .0)), rw d (x .1))
+    go false q ih =
+        let z : same (v .key .text) key ≡ false = (rw (q, placeFor) at e) (omega arith) in
+        let k = before-total (v .key .text) key q z in
+        let d = same-swap key (v .key .text) k in
+        let x = none-after key vs (after-trans vs k (s .0)) in
+        (rw (d, rankOf) (ap suc (sym (x .0))), rw d (x .1))
+
+-- a name that is none of them goes to its rank
+pub place-insert : (v : Assignment) (vs : List Assignment) → assigned (v .key .text) vs ≡ false
+    → insert v vs ≡ take (placeFor (v .key .text) vs) vs ++ v ∷ drop (placeFor (v .key .text) vs) vs
+unfolding insert placeFor assigned
+place-insert v [] e = refl
+place-insert v (w ∷ ws) e = go (before (v .key .text) (w .key .text)) refl (or-false (same (v .key .text) (w .key .text)) (assigned (v .key .text) ws) e) (λ a. place-insert v ws a)
+  where
+    go : (b : Bool) → before (v .key .text) (w .key .text) ≡ b → (same (v .key .text) (w .key .text) ≡ false) × (assigned (v .key .text) ws ≡ false)
+        → (assigned (v .key .text) ws ≡ false → insert v ws ≡ take (placeFor (v .key .text) ws) ws ++ v ∷ drop (placeFor (v .key .text) ws) ws)
+        → insert v (w ∷ ws) ≡ take (placeFor (v .key .text) (w ∷ ws)) (w ∷ ws) ++ v ∷ drop (placeFor (v .key .text) (w ∷ ws)) (w ∷ ws)
+    go true q x ih =
+        let h = before-is (v .key .text) (w .key .text) q in
+        let d : before (w .key .text) (v .key .text) ≡ false = by-not-true (before (w .key .text) (v .key .text)) (λ t. before-irrefl (v .key .text) (before-trans h (before-is (w .key .text) (v .key .text) t))) in
+        rw (q, d, insert, placeFor)
+    go false q x ih =
+        let d : before (w .key .text) (v .key .text) ≡ true = is-before (before-total (v .key .text) (w .key .text) q (x .0)) in
+        rw (q, d, insert, placeFor) (ap (λ (l : List Assignment). w ∷ l) (ih (x .1)))
+
+-- what the search reads: the keys of the variables are the tokens of the column of keys
+key-map : (ts : List Token) (starts ends ks : List ℕ) (i : ℕ) → i < length ks → keyAt (map (variableAt ts starts ends) ks) i ≡ tokenAt ts (getD ks i 0)
+unfolding keyAt
+key-map ts starts ends [] i h = absurd (omega arith)
+key-map ts starts ends (k ∷ ks) zero h = refl
+key-map ts starts ends (k ∷ ks) (suc i) h = key-map ts starts ends ks i (omega arith)
+
+pub all-at : (P : ℕ → Type 0) (ks : List ℕ) (i : ℕ) → i < length ks → All P ks → P (getD ks i 0)
+all-at P [] i h a = absurd (omega arith)
+all-at P (k ∷ ks) zero h a = a .0
+all-at P (k ∷ ks) (suc i) h a = all-at P ks i (omega arith) (a .1)
+
+-- a Text has its text in the pool
+pub text-pooled : (t : Token) → isA Text t ≡ true → poolText t ≡ t .text
+unfolding isA pooled pick
+text-pooled t e = let k = eqb-true (t .kind) 1 e in rw k
+
+module _ (n count v : ℕ) (ws pool : List ℕ) (S : Searchable n count v ws pool) where
+  pub keys-length : length (keysOf n v ws) ≡ v
+  keys-length = length-take-le v (drop (4 * n) ws) (omega (arith, length-drop (4 * n) ws, S .room, S .few))
+
+  pub table-length : length (variablesIn n count v ws pool) ≡ v
+  unfolding variablesIn
+  table-length = length-map (keysOf n v ws) _ ∙ keys-length
+
+  -- the i-th name as it is read
+  name-read : (i : ℕ) → i < v → poolText (tokenAt (decode count ws pool) (getD (keysOf n n ws) i 0)) ≡ keyAt (variablesIn n count v ws pool) i .text
+  unfolding variablesIn
+  name-read i q =
+      let l = keys-length in
+      let e : getD (keysOf n n ws) i 0 ≡ getD (keysOf n v ws) i 0 = getD-take n (drop (4 * n) ws) i 0 (omega (arith, S .few)) ∙ sym (getD-take v (drop (4 * n) ws) i 0 q) in
+      let x = all-at (λ (k : ℕ). isA Text (tokenAt (decode count ws pool) k) ≡ true) (keysOf n v ws) i (omega arith) (S .texts) in
+      ap (λ (k : ℕ). poolText (tokenAt (decode count ws pool) k)) e ∙ text-pooled (tokenAt (decode count ws pool) (getD (keysOf n v ws) i 0)) x
+      ∙ sym (ap (λ (t : Token). t .text) (key-map (decode count ws pool) (startsOf n ws) (endsOf n ws) (keysOf n v ws) i (omega arith)))
+
+  module _ (i : ℕ) (key : List ℕ) (q : i < v) (o k : Order) (e : o ≡ orderOf (poolText (tokenAt (decode count ws pool) (getD (keysOf n n ws) i 0))) key) (m : o ≡ k) where
+    pub reads-before : isLess k ≡ isBefore (variablesIn n count v ws pool) key i
+    reads-before = rw (← name-read i q) (told-before (poolText (tokenAt (decode count ws pool) (getD (keysOf n n ws) i 0))) key o k e m)
+
+    pub reads-same : isEqual k ≡ isSame (variablesIn n count v ws pool) key i
+    reads-same = rw (← name-read i q) (told-same (poolText (tokenAt (decode count ws pool) (getD (keysOf n n ws) i 0))) key o k e m)
+
+  -- what a search for `key` found
+  module _ (key : List ℕ) (p : ℕ) (q : p ≡ placeFor key (variablesIn n count v ws pool)) where
+    found : p < v → isSame (variablesIn n count v ws pool) key p ≡ true → (p ≡ rankOf key (variablesIn n count v ws pool)) × (assigned key (variablesIn n count v ws pool) ≡ true)
+    found h z =
+        let l = table-length in
+        let x = place-found key (variablesIn n count v ws pool) (S .sorted) (omega arith) (rw q at z) in
+        (q ∙ x .0, x .1)
+
+    none : (p < v → isSame (variablesIn n count v ws pool) key p ≡ false) → (v ≡ rankOf key (variablesIn n count v ws pool)) × (assigned key (variablesIn n count v ws pool) ≡ false)
+    none h =
+        let l = table-length in
+        let x = place-none key (variablesIn n count v ws pool) (S .sorted) (λ a. ap (isSame (variablesIn n count v ws pool) key) (sym q) ∙ h (omega arith)) in
+        (sym l ∙ x .0, x .1)
+
+    pub rank-found : (b : Bool) → p < v → b ≡ isSame (variablesIn n count v ws pool) key p → b ≡ true → p ≡ rankOf key (variablesIn n count v ws pool)
+    rank-found b h x y = found h (sym x ∙ y) .0
+
+    pub rank-none : (b : Bool) → b ≡ isSame (variablesIn n count v ws pool) key p → b ≡ false → v ≡ rankOf key (variablesIn n count v ws pool)
+    rank-none b x y = none (λ h. sym x ∙ y) .0
+
+    pub rank-past : v ≤ p → v ≡ rankOf key (variablesIn n count v ws pool)
+    rank-past h = none (λ a. absurd (omega arith)) .0
+
+    pub assigned-by : (b : Bool) → p < v → b ≡ isSame (variablesIn n count v ws pool) key p → b ≡ assigned key (variablesIn n count v ws pool)
+    assigned-by b h x = go b refl
+      where
+        go : (c : Bool) → b ≡ c → b ≡ assigned key (variablesIn n count v ws pool)
+        go true y = y ∙ sym (found h (sym x ∙ y) .1)
+        go false y = y ∙ sym (none (λ _. sym x ∙ y) .1)
+
+    pub assigned-past : v ≤ p → false ≡ assigned key (variablesIn n count v ws pool)
+    assigned-past h = sym (none (λ a. absurd (omega arith)) .1)

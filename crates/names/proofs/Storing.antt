@@ -1,0 +1,202 @@
+-- Storing a variable: the shift, the columns after it, and the variables that they hold. Assumes nothing.
+use Prim.Native.Nat.{ℕ, zero, suc, _+_, _*_, _-_, _≤_, _<_}
+use mathlib.Core.Path.{_≡_, refl, sym, _∙_, ap, ap₂}
+use mathlib.Core.Bool.{Bool, true, false}
+use mathlib.Core.List.{List, [], _∷_, _++_, map}
+use native.Mathlib.Omega.{arith}
+use native.Mathlib.Decide.{decLt}
+use lib.ListN.{length, getD, take, drop, set, length-set, length-append, length-drop}
+use lib.Seq.{drop-set-lt, getD-set-same, getD-set-other, take-append-le, drop-append-le, take-at, drop-at, length-take-le, drop-drop, take-take, take-add}
+use Rattle.rules.specs.Bytes.{pick}
+use Rattle.rules.proofs.BytesLaws.{false-true}
+use Rattle.rules.specs.Tokens.{isA, Text}
+use Rattle.rules.specs.Lines.{Assignment, assigned, insert}
+use Rattle.scan.specs.Stores.{puts}
+use Rattle.scan.proofs.Lists.{rest-at, cell-in, cell-past}
+use Rattle.scan.proofs.Stores.{length-puts, puts-eq, getD-puts-below, getD-puts-above, column-before}
+use Rattle.tokens.specs.Entries.{decode, tokenAt, poolText}
+use Rattle.tokens.proofs.TokenLaws.{decode-same}
+use Rattle.workspace.specs.Map.{keysOf, startsOf, endsOf, variableAt, variablesIn}
+use Rattle.names.specs.declared.Insertion.the-variants.{Inserted, Duplicate}
+use Rattle.names.specs.Store.{placeFor, All, Searchable, Insertable, Inserts, stored, newOne, isAssigned}
+use Rattle.names.proofs.Places.{place-insert, place-le, table-length, text-pooled, assigned-by, assigned-past}
+
+pub record Shifting (n v p key : ℕ) (ws₀ ws : List ℕ) (carry i : ℕ) : Type 0 where
+  pub within : i ≤ v
+  pub long : length ws ≡ length ws₀
+  pub room : 4 * n + v < length ws₀
+  pub left : puts ws (4 * n + i) (carry ∷ take (v - i) (drop (4 * n + i) ws)) ≡ puts ws₀ (4 * n + p) (key ∷ take (v - p) (drop (4 * n + p) ws₀))
+
+pub shift-start : (n v p key : ℕ) (ws : List ℕ) → p ≤ v → 4 * n + v < length ws → Shifting n v p key ws ws key p
+shift-start n v p key ws h r = record { within = h; long = refl; room = r; left = refl }
+
+module _ (n v p key : ℕ) (ws₀ ws : List ℕ) (carry i : ℕ) (S : Shifting n v p key ws₀ ws carry i) where
+  pub shift-more : i < v → Shifting n v p key ws₀ (set ws (4 * n + i) carry) (getD ws (4 * n + i) 0) (i + 1)
+  shift-more h =
+      let e : v - i ≡ suc (v - (i + 1)) = omega arith in
+      let d : 4 * n + i + 1 ≡ 4 * n + (i + 1) = omega arith in
+      let r : drop (4 * n + i) ws ≡ getD ws (4 * n + i) 0 ∷ drop (4 * n + (i + 1)) ws = rest-at ws (4 * n + i) (omega (arith, S .long, S .room)) ∙ rw d in
+      let z : puts ws (4 * n + i) (carry ∷ getD ws (4 * n + i) 0 ∷ take (v - (i + 1)) (drop (4 * n + (i + 1)) ws)) ≡ puts ws₀ (4 * n + p) (key ∷ take (v - p) (drop (4 * n + p) ws₀)) = rw (e, r) at (S .left) in
+      let y : puts (set ws (4 * n + i) carry) (4 * n + i + 1) (getD ws (4 * n + i) 0 ∷ take (v - (i + 1)) (drop (4 * n + (i + 1)) ws)) ≡ puts ws₀ (4 * n + p) (key ∷ take (v - p) (drop (4 * n + p) ws₀)) = z in
+      record {
+        within = omega arith;
+        long = length-set ws (4 * n + i) carry ∙ S .long;
+        room = S .room;
+        left = rw (drop-set-lt (4 * n + (i + 1)) ws (4 * n + i) carry (omega arith)) (rw d at y);
+      }
+
+  pub shift-end : v ≤ i → set ws (4 * n + i) carry ≡ puts ws₀ (4 * n + p) (key ∷ take (v - p) (drop (4 * n + p) ws₀))
+  shift-end h = let e : v - i ≡ 0 = omega arith in rw e at (S .left)
+
+drop-take : (p k : ℕ) (l : List ℕ) → p ≤ length l → drop p (take (p + k) l) ≡ take k (drop p l)
+drop-take p k l h = ap (drop p) (take-add p k l) ∙ drop-at (take p l) (take k (drop p l)) p (length-take-le p l h)
+
+-- a cell of a column: the entry, while the column has it
+cell-same : (n b k : ℕ) (ws ws′ : List ℕ) → getD ws′ (b + k) 0 ≡ getD ws (b + k) 0 → getD (take n (drop b ws′)) k 0 ≡ getD (take n (drop b ws)) k 0
+cell-same n b k ws ws′ e = go (decLt k n)
+  where
+    go : Dec (k < n) → getD (take n (drop b ws′)) k 0 ≡ getD (take n (drop b ws)) k 0
+    go (yes h) = sym (cell-in ws′ b n k h) ∙ e ∙ cell-in ws b n k h
+    go (no h) = sym (cell-past ws′ b n k (omega arith)) ∙ cell-past ws b n k (omega arith)
+
+-- the workspace after storing
+module _ (n v p key from end : ℕ) (ws : List ℕ) (room : 7 * n ≤ length ws) (few : v < n) (h : p ≤ v) (k : key < n) where
+  vals : List ℕ
+  vals = key ∷ take (v - p) (drop (4 * n + p) ws)
+
+  shifted : List ℕ
+  shifted = puts ws (4 * n + p) vals
+
+  length-vals : length vals ≡ 1 + (v - p)
+  unfolding vals
+  length-vals = let e : length (take (v - p) (drop (4 * n + p) ws)) ≡ v - p = length-take-le (v - p) (drop (4 * n + p) ws) (omega (arith, length-drop (4 * n + p) ws)) in omega arith
+
+  pub stored-long : length (stored n v p key from end ws) ≡ length ws
+  stored-long = simp (length-set, length-puts) refl
+
+  -- all but the column of keys and the key's own two cells is as it was
+  pub stored-other : (i : ℕ) → (4 * n ≤ i → i ≤ 4 * n + v → ⊥) → (i ≡ 5 * n + key → ⊥) → (i ≡ 6 * n + key → ⊥) → getD (stored n v p key from end ws) i 0 ≡ getD ws i 0
+  unfolding shifted vals
+  stored-other i a b d =
+      getD-set-other (set shifted (5 * n + key) from) (6 * n + key) i end 0 d ∙ getD-set-other shifted (5 * n + key) i from 0 b ∙ go (decLt i (4 * n))
+    where
+      go : Dec (i < 4 * n) → getD shifted i 0 ≡ getD ws i 0
+      go (yes q) = getD-puts-below ws (4 * n + p) vals i 0 (omega arith)
+      go (no q) = let l = length-vals in elim (decLt (4 * n + v) i) [
+        | yes r ↦ getD-puts-above ws (4 * n + p) vals i 0 (omega arith)
+        | no r ↦ absurd (a (omega arith) (omega arith))
+      ]
+
+  shifted-keys : take (v + 1) (drop (4 * n) shifted) ≡ take p (keysOf n v ws) ++ key ∷ drop p (keysOf n v ws)
+  unfolding shifted vals
+  shifted-keys =
+      let l = length-vals in
+      let x : shifted ≡ take (4 * n + p) ws ++ vals ++ drop (4 * n + p + length vals) ws = puts-eq ws (4 * n + p) vals (omega arith) in
+      let head : length (take (4 * n + p) ws) ≡ 4 * n + p = length-take-le (4 * n + p) ws (omega arith) in
+      let heads : length (take (4 * n + p) ws ++ vals) ≡ 4 * n + v + 1 = omega (arith, length-append (take (4 * n + p) ws) vals) in
+      let a : drop (4 * n) shifted ≡ drop (4 * n) (take (4 * n + p) ws) ++ vals ++ drop (4 * n + p + length vals) ws =
+      ap (drop (4 * n)) x ∙ drop-append-le (4 * n) (take (4 * n + p) ws ++ vals) (drop (4 * n + p + length vals) ws) (omega arith)
+      ∙ ap (λ (y : List ℕ). y ++ drop (4 * n + p + length vals) ws) (drop-append-le (4 * n) (take (4 * n + p) ws) vals (omega arith)) in
+      let b : drop (4 * n) (take (4 * n + p) ws) ≡ take p (drop (4 * n) ws) = drop-take (4 * n) p ws (omega arith) in
+      let d = length-drop (4 * n) ws in
+      let q : length (take p (drop (4 * n) ws)) ≡ p = length-take-le p (drop (4 * n) ws) (omega arith) in
+      let m : length (take p (drop (4 * n) ws) ++ vals) ≡ v + 1 = omega (arith, length-append (take p (drop (4 * n) ws)) vals) in
+      let e : v ≡ p + (v - p) = omega arith in
+      let f : drop p (take v (drop (4 * n) ws)) ≡ take (v - p) (drop (4 * n + p) ws) =
+      ap (λ (z : ℕ). drop p (take z (drop (4 * n) ws))) e ∙ drop-take p (v - p) (drop (4 * n) ws) (omega arith) ∙ ap (take (v - p)) (drop-drop p (4 * n) ws) in
+      ap (take (v + 1)) (a ∙ ap (λ (y : List ℕ). y ++ vals ++ drop (4 * n + p + length vals) ws) b)
+      ∙ take-at (take p (drop (4 * n) ws) ++ vals) (drop (4 * n + p + length vals) ws) (v + 1) m
+      ∙ rw (take-take p v (drop (4 * n) ws) h, f)
+
+  pub stored-keys : keysOf n (v + 1) (stored n v p key from end ws) ≡ take p (keysOf n v ws) ++ key ∷ drop p (keysOf n v ws)
+  unfolding shifted vals
+  stored-keys =
+      column-before (v + 1) (4 * n) (set shifted (5 * n + key) from) (6 * n + key) (end ∷ []) (omega arith)
+      ∙ column-before (v + 1) (4 * n) shifted (5 * n + key) (from ∷ []) (omega arith) ∙ shifted-keys
+
+  pub stored-start : getD (startsOf n (stored n v p key from end ws)) key 0 ≡ from
+  unfolding shifted vals
+  stored-start =
+      let l : length shifted ≡ length ws = length-puts ws (4 * n + p) vals in
+      sym (cell-in (stored n v p key from end ws) (5 * n) n key k)
+      ∙ getD-set-other (set shifted (5 * n + key) from) (6 * n + key) (5 * n + key) end 0 (λ e. omega arith) ∙ getD-set-same shifted (5 * n + key) from 0 (omega arith)
+
+  pub stored-end : getD (endsOf n (stored n v p key from end ws)) key 0 ≡ end
+  unfolding shifted vals
+  stored-end =
+      let l : length shifted ≡ length ws = length-puts ws (4 * n + p) vals in
+      let m : length (set shifted (5 * n + key) from) ≡ length ws = length-set shifted (5 * n + key) from ∙ l in
+      sym (cell-in (stored n v p key from end ws) (6 * n) n key k) ∙ getD-set-same (set shifted (5 * n + key) from) (6 * n + key) end 0 (omega arith)
+
+  pub stored-tokens : (count : ℕ) (pool : List ℕ) → count ≤ n → decode count (stored n v p key from end ws) pool ≡ decode count ws pool
+  stored-tokens count pool t = decode-same count ws (stored n v p key from end ws) pool (λ i q. stored-other i (λ a b. omega arith) (λ e. omega arith) (λ e. omega arith))
+
+  -- the cells of other tokens
+  pub stored-starts : (i : ℕ) → (i ≡ key → ⊥) → getD (startsOf n (stored n v p key from end ws)) i 0 ≡ getD (startsOf n ws) i 0
+  stored-starts i ne = go (decLt i n)
+    where
+      go : Dec (i < n) → getD (startsOf n (stored n v p key from end ws)) i 0 ≡ getD (startsOf n ws) i 0
+      go (yes q) = cell-same n (5 * n) i ws (stored n v p key from end ws) (stored-other (5 * n + i) (λ a b. omega arith) (λ e. ne (omega arith)) (λ e. omega arith))
+      go (no q) = sym (cell-past (stored n v p key from end ws) (5 * n) n i (omega arith)) ∙ cell-past ws (5 * n) n i (omega arith)
+
+  pub stored-ends : (i : ℕ) → (i ≡ key → ⊥) → getD (endsOf n (stored n v p key from end ws)) i 0 ≡ getD (endsOf n ws) i 0
+  stored-ends i ne = cell-same n (6 * n) i ws (stored n v p key from end ws) (stored-other (6 * n + i) (λ a b. omega arith) (λ e. omega arith) (λ e. ne (omega arith)))
+
+-- the variables
+map-below : (f g : ℕ → Assignment) (key : ℕ) → ((k : ℕ) → k < key → g k ≡ f k) → (ks : List ℕ) → All (λ (k : ℕ). k < key) ks → map g ks ≡ map f ks
+map-below f g key e [] b = refl
+map-below f g key e (k ∷ ks) b = ap₂ (λ (x : Assignment) (l : List Assignment). x ∷ l) (e k (b .0)) (map-below f g key e ks (b .1))
+
+map-insert : (f g : ℕ → Assignment) (key : ℕ) → ((k : ℕ) → k < key → g k ≡ f k) → (ks : List ℕ) (p : ℕ) → All (λ (k : ℕ). k < key) ks
+    → map g (take p ks ++ key ∷ drop p ks) ≡ take p (map f ks) ++ g key ∷ drop p (map f ks)
+map-insert f g key e [] zero b = refl
+map-insert f g key e [] (suc p) b = refl
+map-insert f g key e (k ∷ ks) zero b = ap (λ (l : List Assignment). g key ∷ l) (map-below f g key e (k ∷ ks) b)
+map-insert f g key e (k ∷ ks) (suc p) b = ap₂ (λ (x : Assignment) (l : List Assignment). x ∷ l) (e k (b .0)) (map-insert f g key e ks p (b .1))
+
+module _ (n count v key from end : ℕ) (ws pool : List ℕ) (I : Insertable n count v key from end ws pool) where
+  pub place-fits : placeFor (tokenAt (decode count ws pool) key .text) (variablesIn n count v ws pool) ≤ v
+  place-fits = omega (arith, place-le (tokenAt (decode count ws pool) key .text) (variablesIn n count v ws pool), table-length n count v ws pool (I .search))
+
+  stored-table : isAssigned n count v key ws pool ≡ false
+      → variablesIn n count (v + 1) (stored n v (placeFor (tokenAt (decode count ws pool) key .text) (variablesIn n count v ws pool)) key from end ws) pool ≡ insert (newOne count key from end ws pool) (variablesIn n count v ws pool)
+  unfolding variablesIn
+  stored-table a =
+      let p = placeFor (tokenAt (decode count ws pool) key .text) (variablesIn n count v ws pool) in
+      let w = stored n v p key from end ws in
+      let r = I .search .room in
+      let T = stored-tokens n v p key from end ws r (I .more) place-fits (I .inside) count pool (I .search .tokens) in
+      let K = stored-keys n v p key from end ws r (I .more) place-fits (I .inside) in
+      let f = variableAt (decode count ws pool) (startsOf n ws) (endsOf n ws) in
+      let g = variableAt (decode count ws pool) (startsOf n w) (endsOf n w) in
+      let same : (k : ℕ) → k < key → g k ≡ f k = λ k q.
+      rw (stored-starts n v p key from end ws r (I .more) place-fits (I .inside) k (λ z. omega arith), stored-ends n v p key from end ws r (I .more) place-fits (I .inside) k (λ z. omega arith)) in
+      let new : g key ≡ newOne count key from end ws pool =
+      rw (stored-start n v p key from end ws r (I .more) place-fits (I .inside), stored-end n v p key from end ws r (I .more) place-fits (I .inside)) in
+      ap₂ (λ (ts : List _) (ks : List ℕ). map (variableAt ts (startsOf n w) (endsOf n w)) ks) T K
+      ∙ map-insert f g key same (keysOf n v ws) p (I .older)
+      ∙ ap (λ (x : Assignment). take p (variablesIn n count v ws pool) ++ x ∷ drop p (variablesIn n count v ws pool)) new
+      ∙ sym (place-insert (newOne count key from end ws pool) (variablesIn n count v ws pool) a)
+
+  pub insert-dup : (b : Bool) → b ≡ isAssigned n count v key ws pool → b ≡ true → Inserts n count v key from end pool ws ws Duplicate
+  unfolding pick
+  insert-dup b e q =
+      let a : isAssigned n count v key ws pool ≡ true = sym e ∙ q in
+      record { is-answer = rw a; is-ws = rw a; is-table = λ z. absurd (false-true z a) }
+
+  -- p is where the search for the key's text ended
+  module _ (p : ℕ) (text : List ℕ) (r : p ≡ placeFor text (variablesIn n count v ws pool)) (t : text ≡ poolText (tokenAt (decode count ws pool) key)) where
+    pub is-place : p ≡ placeFor (tokenAt (decode count ws pool) key .text) (variablesIn n count v ws pool)
+    is-place = rw (← text-pooled (tokenAt (decode count ws pool) key) (I .text), ← t) r
+
+    pub place-in : p ≤ v
+    place-in = let h = place-fits in omega (arith, is-place)
+
+    pub insert-new : (b : Bool) (w : List ℕ) → b ≡ isAssigned n count v key ws pool → b ≡ false → w ≡ puts ws (4 * n + p) (key ∷ take (v - p) (drop (4 * n + p) ws))
+        → Inserts n count v key from end pool ws (set (set w (5 * n + key) from) (6 * n + key) end) Inserted
+    unfolding pick
+    insert-new b w e q s =
+        let a : isAssigned n count v key ws pool ≡ false = sym e ∙ q in
+        let i : set (set w (5 * n + key) from) (6 * n + key) end ≡ stored n v (placeFor (tokenAt (decode count ws pool) key .text) (variablesIn n count v ws pool)) key from end ws =
+        ap (λ (l : List ℕ). set (set l (5 * n + key) from) (6 * n + key) end) s ∙ ap (λ (k : ℕ). stored n v k key from end ws) is-place in
+        record { is-answer = rw a; is-ws = rw a i; is-table = λ z. ap (λ (l : List ℕ). variablesIn n count (v + 1) l pool) i ∙ stored-table z }

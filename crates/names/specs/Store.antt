@@ -1,0 +1,87 @@
+-- Variables in byte order, as the workspace holds them: what storing one asks and does, and what looking up references does. Assumes nothing.
+use Prim.Native.Nat.{ℕ, zero, suc, _+_, _*_, _-_, _≤_, _<_}
+use mathlib.Core.Path.{_≡_}
+use mathlib.Core.Bool.{Bool, true, false}
+use mathlib.Core.List.{List, [], _∷_}
+use lib.ListN.{length, take, drop, set}
+use Rattle.rules.specs.Bytes.{pick, before, same}
+use Rattle.rules.specs.Tokens.{Token, isA, Text, Variable}
+use Rattle.rules.specs.Lines.{Assignment, assigned, insert}
+use Rattle.rules.specs.Variables.{rankOf, keyAt}
+use Rattle.rules.proofs.TableLaws.{Sorted}
+use Rattle.scan.specs.Stores.{puts}
+use Rattle.tokens.specs.Entries.{decode, tokenAt}
+use Rattle.workspace.specs.Map.{keysOf, partsBetween, variablesIn}
+use Rattle.names.specs.declared.Insertion.{Insertion}
+use Rattle.names.specs.declared.Insertion.the-variants.{Inserted, Duplicate}
+
+-- how many names, from the front on, stand before the key: where it is to be stored
+unfoldable pub placeFor : List ℕ → List Assignment → ℕ
+placeFor key [] = zero
+placeFor key (v ∷ vs) = elim (before (v .key .text) key) [ true ↦ suc (placeFor key vs) | false ↦ zero ]
+
+-- the i-th name stands before the key; it is the key
+abbrev pub isBefore : List Assignment → List ℕ → ℕ → Bool
+isBefore vs key i = before (keyAt vs i .text) key
+
+abbrev pub isSame : List Assignment → List ℕ → ℕ → Bool
+isSame vs key i = same (keyAt vs i .text) key
+
+-- it holds of each
+abbrev pub All : (ℕ → Type 0) → List ℕ → Type 0
+All P [] = Unit {0}
+All P (k ∷ ks) = P k × All P ks
+
+-- these tokens are Text
+abbrev pub Texts : List Token → List ℕ → Type 0
+Texts ts ks = All (λ (k : ℕ). isA Text (tokenAt ts k) ≡ true) ks
+
+-- what a search asks
+pub record Searchable (n count v : ℕ) (ws pool : List ℕ) : Type 0 where
+  pub room : 7 * n ≤ length ws
+  pub tokens : count ≤ n
+  pub few : v ≤ n
+  pub texts : Texts (decode count ws pool) (keysOf n v ws)
+  pub sorted : Sorted (variablesIn n count v ws pool)
+
+-- what storing the variable of key token `key` asks: it comes after the keys stored before it, and is a Text
+pub record Insertable (n count v key from end : ℕ) (ws pool : List ℕ) : Type 0 where
+  pub search : Searchable n count v ws pool
+  pub older : All (λ (k : ℕ). k < key) (keysOf n v ws)
+  pub text : isA Text (tokenAt (decode count ws pool) key) ≡ true
+  pub more : v < n
+  pub inside : key < n
+  pub small : n ≤ 65535
+  pub from-small : from ≤ n
+  pub end-small : end ≤ n
+
+abbrev pub isAssigned : ℕ → ℕ → ℕ → ℕ → List ℕ → List ℕ → Bool
+isAssigned n count v key ws pool = assigned (tokenAt (decode count ws pool) key .text) (variablesIn n count v ws pool)
+
+-- the variable that is to be stored
+abbrev pub newOne : ℕ → ℕ → ℕ → ℕ → List ℕ → List ℕ → Assignment
+newOne count key from end ws pool = record { key = tokenAt (decode count ws pool) key; value = partsBetween (decode count ws pool) from end }
+
+-- the workspace with the variable stored, at place p of the sorted ones
+abbrev pub stored : ℕ → ℕ → ℕ → ℕ → ℕ → ℕ → List ℕ → List ℕ
+stored n v p key from end ws = set (set (puts ws (4 * n + p) (key ∷ take (v - p) (drop (4 * n + p) ws))) (5 * n + key) from) (6 * n + key) end
+
+-- A variable that is assigned already is a duplicate, and nothing changes. Else it goes to its place in byte order, and nothing else changes.
+pub record Inserts (n count v key from end : ℕ) (pool ws ws′ : List ℕ) (r : Insertion) : Type 0 where
+  pub is-answer : r ≡ pick (isAssigned n count v key ws pool) Duplicate Inserted
+  pub is-ws : ws′ ≡ pick (isAssigned n count v key ws pool) ws (stored n v (placeFor (tokenAt (decode count ws pool) key .text) (variablesIn n count v ws pool)) key from end ws)
+  pub is-table : isAssigned n count v key ws pool ≡ false → variablesIn n count (v + 1) ws′ pool ≡ insert (newOne count key from end ws pool) (variablesIn n count v ws pool)
+
+-- the rank of the variable that token t refers to; 0 where it is no reference
+abbrev pub rankFor : List Assignment → Token → ℕ
+rankFor vs t = pick (isA Variable t) (rankOf (t .text) vs) 0
+
+unfoldable pub ranks : List Assignment → List Token → List ℕ
+ranks vs [] = []
+ranks vs (t ∷ ts) = rankFor vs t ∷ ranks vs ts
+
+-- what looking up asks
+pub record Lookable (n count v : ℕ) (ws pool : List ℕ) : Type 0 where
+  pub search : Searchable n count v ws pool
+  pub room : 8 * n ≤ length ws
+  pub small : n ≤ 65535

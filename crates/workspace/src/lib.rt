@@ -1,0 +1,1 @@
+// The map of the workspace: definitions only (specs/).
