@@ -1,0 +1,5 @@
+pub mod Decimals
+pub mod Puts
+pub mod Runs
+pub mod Answers
+pub mod Accepted
