@@ -36,36 +36,61 @@ each-append : (P : Token → Type 0) (ts us : List Token) → Each P ts → Each
 each-append P [] us h k = k
 each-append P (t ∷ ts) us h k = (h .0, each-append P ts us (h .1) k)
 
-flush-not-empty : (end : ℕ) (g : Gathered) → Each NotEmpty (flush end g)
-unfolding flush textToken token
-flush-not-empty end g = go (g .text)
-  where
-    go : (s : List ℕ) → Each NotEmpty (textToken end (g .source) s)
-    go [] = tt
-    go (b ∷ bs) = (λ q. omega arith, tt)
+-- what holds of every Text, every Variable and every other token that lexing can make
+pub record EachKind (P : Token → Type 0) : Type 0 where
+  pub texts : (b : ℕ) (bs : List ℕ) (place source : ℕ) → P (token Text (b ∷ bs) place source)
+  pub variables : (name : List ℕ) (place source : ℕ) → P (token Variable name place source)
+  pub marks : (kind b source : ℕ) → Variable < kind → P (token kind (b ∷ []) 0 source)
 
-lex-not-empty : (bs : List ℕ) (end : ℕ) (g : Gathered) (skip at : ℕ) (ts : List Token) → lex end g skip at bs ≡ ok ts → Each NotEmpty ts
-unfolding lex token isA
-lex-not-empty [] end g skip at ts e = subst (λ (us : List Token). Each NotEmpty us) (ok-one e) (flush-not-empty end g)
-lex-not-empty (b ∷ bs) end g (suc skip) at ts e = lex-not-empty bs end g skip (suc at) ts e
-lex-not-empty (b ∷ bs) end g zero at ts e = go (lexeme (class b) b bs) refl (λ end′ g′ n us e′. lex-not-empty bs end′ g′ n (suc at) us e′)
-  where
-    more : (t : Token) (n next : ℕ) → NotEmpty t → ((end′ : ℕ) (g′ : Gathered) (n : ℕ) (us : List Token) → lex end′ g′ n (suc at) bs ≡ ok us → Each NotEmpty us)
-        → prepend (flush end g ++ (t ∷ [])) (lex next nothingYet n (suc at) bs) ≡ ok ts → Each NotEmpty ts
-    more t n next h ih e′ =
-        let x = prepend-ok (flush end g ++ (t ∷ [])) (lex next nothingYet n (suc at) bs) ts e′ in
-        rw (x .2) (each-append NotEmpty (flush end g ++ (t ∷ [])) (x .0) (each-append NotEmpty (flush end g) (t ∷ []) (flush-not-empty end g) (h, tt)) (ih next nothingYet n (x .0) (x .1)))
+module _ (P : Token → Type 0) (k : EachKind P) where
+  flush-each : (end : ℕ) (g : Gathered) → Each P (flush end g)
+  unfolding flush textToken
+  flush-each end g = go (g .text)
+    where
+      go : (s : List ℕ) → Each P (textToken end (g .source) s)
+      go [] = tt
+      go (b ∷ bs) = (k .texts b bs end (g .source), tt)
 
-    go : (x : Lexeme) → lexeme (class b) b bs ≡ x → ((end′ : ℕ) (g′ : Gathered) (n : ℕ) (us : List Token) → lex end′ g′ n (suc at) bs ≡ ok us → Each NotEmpty us) → Each NotEmpty ts
-    go (Lexeme.chars cs n) q ih = ih end (gather g cs at) n ts (sym (lex-chars end g at b bs cs n q) ∙ e)
-    go (Lexeme.reference name n) q ih =
-        more (token Variable name (end + length (g .text)) at) n (end + length (g .text) + length name) (λ z. let w : _≡_ {A = Bool} false true = z in let v : _≡_ {A = ℕ} 0 1 = cc in absurd (omega (arith, v))) ih (sym (lex-reference end g at b bs name n q) ∙ e)
-    go (Lexeme.mark kind n) q ih = more (token kind (b ∷ []) 0 at) n (end + length (g .text)) (λ z. omega arith) ih (sym (lex-mark end g at b bs kind n q) ∙ e)
-    go (Lexeme.bad x) q ih = absurd (refused-ok (sym (lex-bad end g at b bs x q) ∙ e))
+  lex-each : (bs : List ℕ) (end : ℕ) (g : Gathered) (skip at : ℕ) (ts : List Token) → lex end g skip at bs ≡ ok ts → Each P ts
+  unfolding lex
+  lex-each [] end g skip at ts e = subst (λ (us : List Token). Each P us) (ok-one e) (flush-each end g)
+  lex-each (b ∷ bs) end g (suc skip) at ts e = lex-each bs end g skip (suc at) ts e
+  lex-each (b ∷ bs) end g zero at ts e = go (lexeme (class b) b bs) refl (lexeme-fits (class b) b bs) (λ end′ g′ n us e′. lex-each bs end′ g′ n (suc at) us e′)
+    where
+      more : (t : Token) (n next : ℕ) → P t → ((end′ : ℕ) (g′ : Gathered) (n : ℕ) (us : List Token) → lex end′ g′ n (suc at) bs ≡ ok us → Each P us)
+          → prepend (flush end g ++ (t ∷ [])) (lex next nothingYet n (suc at) bs) ≡ ok ts → Each P ts
+      more t n next h ih e′ =
+          let x = prepend-ok (flush end g ++ (t ∷ [])) (lex next nothingYet n (suc at) bs) ts e′ in
+          rw (x .2) (each-append P (flush end g ++ (t ∷ [])) (x .0) (each-append P (flush end g) (t ∷ []) (flush-each end g) (h, tt)) (ih next nothingYet n (x .0) (x .1)))
+
+      go : (x : Lexeme) → lexeme (class b) b bs ≡ x → Fits bs x → ((end′ : ℕ) (g′ : Gathered) (n : ℕ) (us : List Token) → lex end′ g′ n (suc at) bs ≡ ok us → Each P us) → Each P ts
+      go (Lexeme.chars cs n) q f ih = ih end (gather g cs at) n ts (sym (lex-chars end g at b bs cs n q) ∙ e)
+      go (Lexeme.reference name n) q f ih =
+          more (token Variable name (end + length (g .text)) at) n (end + length (g .text) + length name) (k .variables name (end + length (g .text)) at) ih (sym (lex-reference end g at b bs name n q) ∙ e)
+      go (Lexeme.mark kind n) q f ih = more (token kind (b ∷ []) 0 at) n (end + length (g .text)) (k .marks kind b at (f .1)) ih (sym (lex-mark end g at b bs kind n q) ∙ e)
+      go (Lexeme.bad x) q f ih = absurd (refused-ok (sym (lex-bad end g at b bs x q) ∙ e))
+
+  pub tokens-each : (input : List ℕ) (ts : List Token) → tokens input ≡ ok ts → Each P ts
+  unfolding tokens
+  tokens-each input ts e = lex-each input 0 nothingYet 0 0 ts e
+
+-- every token has a kind
+abbrev pub HasKind : Token → Type 0
+HasKind t = 0 < t .kind
+
+pub tokens-kinds : (input : List ℕ) (ts : List Token) → tokens input ≡ ok ts → Each HasKind ts
+unfolding token
+tokens-kinds input ts e = tokens-each HasKind (record { texts = λ b bs p s. omega arith; variables = λ n p s. omega arith; marks = λ x b s h. omega arith }) input ts e
 
 pub tokens-not-empty : (input : List ℕ) (ts : List Token) → tokens input ≡ ok ts → Each NotEmpty ts
-unfolding tokens
-tokens-not-empty input ts e = lex-not-empty input 0 nothingYet 0 0 ts e
+unfolding token isA
+tokens-not-empty input ts e =
+    tokens-each NotEmpty (record {
+      texts = λ b bs p s q. omega arith;
+      variables = λ n p s q. let z : _≡_ {A = ℕ} 0 1 = cc in absurd (omega (arith, z));
+      marks = λ x b s h q. omega arith;
+    })
+    input ts e
 
 none-empty : (vs : List Assignment) → InVariables NotEmpty vs → assigned [] vs ≡ false
 unfolding assigned same
