@@ -10,11 +10,11 @@ use lib.ListN.{length, getD, drop, set, replicate, drop-of-length-le}
 use lib.Seq.{drop-cons}
 use Rattle.rules.specs.Tokens.{Token}
 use Rattle.rules.specs.Variables.{Piece, text, ref, limit}
-use Rattle.rules.proofs.Lengths.{Sum, boundedSum, add, add-missing, add-more, Lens, passLens, lens-valued, lens-over, lens-missing, lens-sum, Settles, lackingLens, leftLens}
+use Rattle.rules.proofs.Lengths.{Sum, boundedSum, add, add-missing, add-more, lens-valued, lens-over, lens-missing, lens-sum, Settles, lackingLens, leftLens}
 use Rattle.tokens.specs.Entries.{decode, tokenAt}
 use Rattle.workspace.specs.Map.{rulesIn, lengthsOf, Room}
 use Rattle.workspace.proofs.Links.{rules-length}
-use Rattle.passes.specs.Visits.{rule, advanceIn, State, Visits, zeros, passFrom, Steps, Beyond}
+use Rattle.passes.specs.Visits.{rule, advanceIn, State, Visits, zeros, Steps, Beyond}
 use Rattle.passes.proofs.States.{few, column-length, lacks-token}
 use Rattle.passes.specs.declared.sums.Advance.{Advance}
 use Rattle.passes.specs.declared.sums.Advance.the-variants as Adv
