@@ -1,6 +1,6 @@
 -- The listing takes whatever the reader writes (document 01, "Records and listing"): never 18, and 17 exactly where its own output is short. Assumes nothing.
 use Prim.Native.Nat.{ℕ, _<_, _≤_}
-use mathlib.Core.Path.{_≡_, refl, ap, sym, _∙_}
+use mathlib.Core.Path.{_≡_}
 use mathlib.Core.List.{List}
 use mathlib.Core.Option.{some}
 use lib.ListN.{length}

@@ -3,3 +3,4 @@ pub mod Puts
 pub mod Runs
 pub mod Answers
 pub mod Accepted
+pub mod Outcome

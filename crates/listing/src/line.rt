@@ -2,7 +2,7 @@
 ghost use mathlib.Core.Path.{_≡_};
 ghost use mathlib.Core.List.{[], _∷_};
 ghost use Prim.Native.Nat.{_+_, _≤_};
-ghost use lib.ListN.{length, take, drop};
+ghost use lib.ListN.{length};
 ghost use Rattle.rules.specs.Variables.{limit};
 ghost use Rattle.rules.specs.Listing.{decimal, listingLine};
 ghost use Rattle.listing.specs.Shown.{Put, lineHead, lineLength};

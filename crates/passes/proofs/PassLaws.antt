@@ -16,7 +16,7 @@ use Rattle.rules.proofs.Lengths.{Sum, add, Lens, passLens, lens-valued, lens-mi
 use Rattle.workspace.specs.Map.{lengthsOf, rulesIn}
 use Rattle.passes.specs.Visits.{State, zeros, passFrom}
 use Rattle.passes.specs.Blocks.{bitAt, Block, Rests, Leaves, Turns}
-use Rattle.passes.specs.Passes.{Covers, Wide, Turning, Passes}
+use Rattle.passes.specs.Passes.{Covers, Turning, Passes}
 use Rattle.passes.proofs.States.{few, same-rules, state-then}
 use Rattle.passes.proofs.Turns.{rules-count, rules-past}
 use Rattle.passes.proofs.Bits.{or-off, no-bit}

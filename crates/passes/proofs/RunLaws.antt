@@ -1,23 +1,22 @@
 -- All passes, from the cleared columns to the answer. Assumes nothing.
-use Prim.Native.Nat.{ℕ, zero, suc, _+_, _*_, _-_, _/_, _≤_, _<_}
+use Prim.Native.Nat.{ℕ, suc, _+_, _*_, _-_, _/_, _≤_, _<_}
 use mathlib.Core.Path.{_≡_, refl, sym, _∙_, ap, ap₂}
 use mathlib.Core.Bool.{true, false}
-use mathlib.Core.List.{List, [], _∷_, _++_}
-use native.Mathlib.Nat.{zero-add, sub-zero, add-zero}
+use mathlib.Core.List.{List, _++_}
+use native.Mathlib.Nat.{zero-add, sub-zero}
 use native.Mathlib.Omega.{arith}
 use lib.ListN.{length, getD, take, drop, replicate, length-append, length-drop, length-replicate, getD-replicate, take-append-drop}
-use lib.Seq.{getD-take, getD-drop, ext-getD, drop-drop, take-add, length-take-le, take-at}
+use lib.Seq.{getD-take, getD-drop, ext-getD, take-add, length-take-le}
 use Rattle.rules.specs.Tokens.{Token}
-use Rattle.rules.specs.Variables.{Piece}
 use Rattle.rules.proofs.Lengths.{Lens, passLens, Settles, leftLens, passesLens, resolveLens}
 use Rattle.scan.specs.Stores.{puts}
 use Rattle.scan.proofs.Stores.{length-puts, take-puts, drop-puts, puts-puts, puts-eq, getD-stored, column-before}
-use Rattle.tokens.specs.Entries.{decode, tokenAt}
+use Rattle.tokens.specs.Entries.{tokenAt}
 use Rattle.workspace.specs.Map.{lengthsOf, rulesIn, Room}
-use Rattle.workspace.proofs.Frames.{decode-low, take-low, column-low, rules-low}
-use Rattle.passes.specs.Visits.{stopsOf, sumsOf, State, zeros, passFrom, Stuck, meaning}
+use Rattle.workspace.proofs.Frames.{decode-low, rules-low}
+use Rattle.passes.specs.Visits.{State, zeros, Stuck, meaning}
 use Rattle.passes.specs.Passes.{Turning, Passes, countLens, passCount, Ready, Runs, keptOf, columns, Resolves}
-use Rattle.passes.proofs.States.{few, column-length, rule-rest, same-rules, same-tokens, state-here, state-then}
+use Rattle.passes.proofs.States.{few, column-length, rule-rest, same-rules, state-here, state-then}
 use Rattle.passes.proofs.Turns.{zeros-replicate, rules-count}
 use Rattle.passes.proofs.Bits.{all-bits}
 use Rattle.passes.proofs.Waits.{rests-here}

@@ -7,7 +7,6 @@ use native.Mathlib.Decide.{decLt}
 use native.Mathlib.Omega.{arith}
 use lib.ListN.{length, getD, take, drop, set, length-set, length-drop}
 use lib.Seq.{getD-set-other, getD-set-same, take-set-le, drop-set-lt, length-take-le}
-use Rattle.rules.specs.Tokens.{Token}
 use Rattle.rules.specs.Variables.{Piece}
 use Rattle.rules.proofs.Lengths.{Sum, add}
 use Rattle.scan.proofs.Stores.{column-after, column-before, column-inside}
@@ -15,8 +14,7 @@ use Rattle.tokens.specs.Entries.{decode, tokenAt}
 use Rattle.tokens.proofs.TokenLaws.{length-decode}
 use Rattle.workspace.specs.Map.{keysOf, startsOf, endsOf, ranksOf, lengthsOf, ruleAt, rulesIn, Room}
 use Rattle.workspace.proofs.Frames.{decode-low, column-low, rules-low}
-use Rattle.workspace.proofs.Links.{keys-length, rules-length}
-use Rattle.passes.specs.Sums.{top, sizeAt, advance, Extends, Reaches}
+use Rattle.passes.specs.Sums.{top, sizeAt, advance, Extends}
 use Rattle.passes.specs.Visits.{stopsOf, sumsOf, resumeAt, startAt, endAt, rule, restOf, advanceIn, Resumes, State, Visits, Beyond, Lacking}
 use Rattle.passes.proofs.Advances.{Advances, advances, extends-refl, extends-then}
 use Rattle.passes.specs.declared.sums.Advance.{Advance}

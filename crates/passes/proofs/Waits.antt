@@ -1,13 +1,12 @@
 -- Turns, and who rests after them. Assumes nothing.
-use Prim.Native.Nat.{ℕ, zero, suc, _+_, _*_, _^_, _≤_, _<_}
+use Prim.Native.Nat.{ℕ, suc, _+_, _*_, _^_, _≤_, _<_}
 use mathlib.Core.Path.{_≡_, refl, sym, _∙_, ap}
-use mathlib.Core.Bool.{Bool, true, false}
-use mathlib.Core.List.{List, [], _∷_}
+use mathlib.Core.Bool.{true}
+use mathlib.Core.List.{List}
 use native.Mathlib.Decide.{decLt}
 use native.Mathlib.Omega.{arith}
 use lib.Bits.{bitOr}
-use lib.Dec.{ltb}
-use lib.ListN.{length, getD, take, drop, set, length-set}
+use lib.ListN.{getD, take, drop, set, length-set}
 use lib.Seq.{getD-set-other, getD-set-same, getD-take, getD-drop, take-set-le, drop-set-lt}
 use borrow.Author.Tests.{lt-ltb, le-ltb}
 use Rattle.rules.specs.Bytes.{pick}
@@ -15,13 +14,13 @@ use Rattle.rules.specs.Tokens.{Token}
 use Rattle.rules.proofs.BytesLaws.{false-true}
 use Rattle.rules.proofs.Lengths.{Sum, add}
 use Rattle.tokens.specs.Entries.{decode, tokenAt}
-use Rattle.workspace.specs.Map.{ranksOf, lengthsOf, Room}
+use Rattle.workspace.specs.Map.{ranksOf, lengthsOf}
 use Rattle.workspace.proofs.Frames.{column-low}
 use Rattle.passes.specs.Sums.{sizeOf}
-use Rattle.passes.specs.Visits.{stopsOf, sumsOf, resumeAt, startAt, endAt, rule, restOf, State, Steps, Beyond}
-use Rattle.passes.specs.Blocks.{bitAt, waitersOf, markedAt, Waiting, Rests, Leaves, Turns}
+use Rattle.passes.specs.Visits.{stopsOf, sumsOf, resumeAt, endAt, rule, restOf, State, Steps, Beyond}
+use Rattle.passes.specs.Blocks.{bitAt, waitersOf, markedAt, Rests, Turns}
 use Rattle.passes.proofs.Advances.{add-stopped, extends-refl}
-use Rattle.passes.proofs.States.{dec-eq, few, column-length, column-above, column-at, room-here, same-rules, same-tokens, state-here, state-then}
+use Rattle.passes.proofs.States.{dec-eq, few, column-length, column-above, column-at, same-tokens, state-then}
 use Rattle.passes.proofs.Bits.{or-left, or-right, own-bit}
 use Rattle.passes.specs.declared.visits.Visited.the-variants as Vis
 use Rattle.passes.specs.declared.blocks.Turned.the-variants as Tur

@@ -27,20 +27,13 @@ pub struct Outcome {
     pub passes: usize,
 }
 
-// One pass over all variables in byte order. Blocks of w variables that are not due are left out: all in them rest.
-fn pass(
-    ws: &mut [u32],
-    pool: &[u8],
-    n: usize,
-    count: usize,
-    v: usize,
-    w: usize,
-    given: u32,
-) -> Passed
-    requires { ⌜ Turning n count v w given (now pool) (now ws) ⌝ }
+// One pass over all variables in byte order. Of the blocks of w variables only those of `set` are due, and those that wait for a value found:
+// in the others all rest.
+fn pass(ws: &mut [u32], pool: &[u8], n: usize, count: usize, v: usize, w: usize, set: u32) -> Passed
+    requires { ⌜ Turning n count v w set (now pool) (now ws) ⌝ }
     ensures { λ r. ⌜ State n count v (now (pool .entry)) (now (ws .entry)) (now (ws .exit)) × Passes n count v w (now (pool .entry)) (now (ws .entry)) (now (ws .exit)) r ⌝ }
 {
-    let mut due = given;
+    let mut due = set;
     let mut next = 0u32;
     let mut found = false;
     let mut i = 0;

@@ -21,22 +21,38 @@ plain-requires-2 : tie.Need-plain-requires-2
 plain-requires-2 c κs = search needs
 
 returns : tie.Need-returns
-returns c = rw (c .plain2 .ensures) (let s = says-short (c .before .before .before .before .before .before .before .before .args .records .now) (c .before .before .before .before .before .before .before .before .args .output .now) (sym (c .before .before .before .before .before .measure .ensures) ∙ c .before .before .before .m .given .1) (c .before .if1 .taken) in (s .answer, s .written))
+returns c =
+    let p = c .before .before .before in
+    let a = p .before .before .before .before .before .args in
+    let s = says-short (a .records .now) (a .output .now) (sym (p .before .before .measure .ensures) ∙ p .m .given .1) (c .before .if1 .taken) in
+    rw (c .plain2 .ensures) (s .answer, s .written)
 
 write-lines-requires : tie.Need-write-lines-requires
-write-lines-requires c κs = fitting (c .before .before .before .before .before .before .before .before .args .records .now) (c .before .before .before .before .before .before .before .before .args .output .now) (sym (c .before .before .before .before .before .measure .ensures) ∙ c .before .before .before .m .given .1) (c .before .if1 .left)
+write-lines-requires c κs =
+    let p = c .before .before .before in
+    let a = p .before .before .before .before .before .args in
+    fitting (a .records .now) (a .output .now) (sym (p .before .before .measure .ensures) ∙ p .m .given .1) (c .before .if1 .left)
 
 plain-requires-3 : tie.Need-plain-requires-3
 plain-requires-3 c κs = search needs
 
 returns-2 : tie.Need-returns-2
-returns-2 c = rw (c .plain .ensures) (let s = says-broken (c .before .before .before .before .before .before .args .records .now) (c .before .before .before .before .before .before .args .output .now) (sym (c .before .before .before .measure .ensures) ∙ c .before .enum-told .given .1) in (s .answer, s .written))
+returns-2 c =
+    let p = c .before .before .before in
+    let a = p .before .before .before .args in
+    let s = says-broken (a .records .now) (a .output .now) (sym (p .measure .ensures) ∙ c .before .enum-told .given .1) in
+    rw (c .plain .ensures) (s .answer, s .written)
 
 same-length : tie.Need-same-length
 same-length c = search needs
 
 returns-3 : tie.Need-returns-3
-returns-3 c = rw (c .plain3 .ensures, c .before .before .before .write-lines .ensures) (let s = says-written (c .before .before .before .before .before .before .before .before .before .before .before .before .args .records .now) (c .before .before .before .before .before .before .before .before .before .before .before .before .args .output .now) (sym (c .before .before .before .before .before .before .before .before .before .measure .ensures) ∙ c .before .before .before .before .before .before .before .m .given .1) (c .before .before .before .before .before .if1 .left) in (s .answer, s .written))
+returns-3 c =
+    let w = c .before .before .before in
+    let p = w .before .before .before .before in
+    let a = p .before .before .before .before .before .args in
+    let s = says-written (a .records .now) (a .output .now) (sym (p .before .before .measure .ensures) ∙ p .m .given .1) (w .before .before .if1 .left) in
+    rw (c .plain3 .ensures, w .write-lines .ensures) (s .answer, s .written)
 
 pub listing-spec : {M : Type 1} → statement M
 listing-spec =

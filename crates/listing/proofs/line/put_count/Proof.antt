@@ -13,17 +13,23 @@ put-head-requires c κs = omega (arith, length-line (c .before .before .args .ki
 
 put-decimal-requires : tie.Need-put-decimal-requires
 unfolding lineLength
-put-decimal-requires c κs = omega (arith, length-line (c .before .before .before .before .before .before .args .kind) 4 (decimal (c .before .before .before .before .before .before .args .count)), length-head (c .before .before .before .before .before .before .args .kind) 4)
+put-decimal-requires c κs =
+    let p = c .before .before .before .before .before .before in
+    omega (arith, length-line (p .args .kind) 4 (decimal (p .args .count)), length-head (p .args .kind) 4)
 
 put-byte-requires : tie.Need-put-byte-requires
 unfolding lineLength
-put-byte-requires c κs = omega (arith, length-line (c .before .before .before .before .before .before .before .before .before .before .args .kind) 4 (decimal (c .before .before .before .before .before .before .before .before .before .before .args .count)), length-head (c .before .before .before .before .before .before .before .before .before .before .args .kind) 4)
+put-byte-requires c κs =
+    let p = c .before .before .before .before .before .before .before .before .before .before in
+    omega (arith, length-line (p .args .kind) 4 (decimal (p .args .count)), length-head (p .args .kind) 4)
 
 same-length : tie.Need-same-length
 same-length c = search needs
 
 returns : tie.Need-returns
-returns c = rw line-is (put-then (put-then (c .before .before .before .before .before .before .before .before .before .before .put-head .ensures) (c .before .before .before .before .before .before .put-decimal .ensures)) (c .before .before .put-byte .ensures))
+returns c =
+    let p = c .before .before .before .before .before .before in
+    rw line-is (put-then (put-then (p .before .before .before .before .put-head .ensures) (p .put-decimal .ensures)) (c .before .before .put-byte .ensures))
 
 pub put-count-spec : {M : Type 1} → statement M
 put-count-spec =

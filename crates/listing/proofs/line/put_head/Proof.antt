@@ -14,10 +14,14 @@ put-byte-requires : tie.Need-put-byte-requires
 put-byte-requires c κs = omega (arith, length-head (c .before .before .before .before .before .before .args .kind) (c .before .before .before .before .before .before .args .size))
 
 put-decimal-requires-2 : tie.Need-put-decimal-requires-2
-put-decimal-requires-2 c κs = omega (arith, length-head (c .before .before .before .before .before .before .before .before .before .before .args .kind) (c .before .before .before .before .before .before .before .before .before .before .args .size))
+put-decimal-requires-2 c κs =
+    let p = c .before .before .before .before .before .before .before .before .before .before in
+    omega (arith, length-head (p .args .kind) (p .args .size))
 
 put-byte-requires-2 : tie.Need-put-byte-requires-2
-put-byte-requires-2 c κs = omega (arith, length-head (c .before .before .before .before .before .before .before .before .before .before .before .before .before .before .args .kind) (c .before .before .before .before .before .before .before .before .before .before .before .before .before .before .args .size))
+put-byte-requires-2 c κs =
+    let p = c .before .before .before .before .before .before .before .before .before .before .before .before .before .before in
+    omega (arith, length-head (p .args .kind) (p .args .size))
 
 same-length : tie.Need-same-length
 same-length c = search needs
@@ -25,7 +29,10 @@ same-length c = search needs
 returns : tie.Need-returns
 unfolding lineHead bytes
 returns c =
-    put-then (put-then (put-then (c .before .before .before .before .before .before .before .before .before .before .before .before .before .before .put-decimal .ensures) (c .before .before .before .before .before .before .before .before .before .before .put-byte .ensures)) (c .before .before .before .before .before .before .put-decimal2 .ensures)) (c .before .before .put-byte2 .ensures)
+    let p = c .before .before .before .before .before .before in
+    let q = p .before .before .before .before in
+    let r = q .before .before .before .before in
+    put-then (put-then (put-then (r .put-decimal .ensures) (q .put-byte .ensures)) (p .put-decimal2 .ensures)) (c .before .before .put-byte2 .ensures)
 
 pub put-head-spec : {M : Type 1} → statement M
 put-head-spec =

@@ -29,16 +29,28 @@ enum-known-s : tie.Need-enum-known-s Inv-loop μ-loop
 enum-known-s c = search needs
 
 line-length-requires : tie.Need-line-length-requires Inv-loop μ-loop
-line-length-requires c κs = step-moves (c .before .before .before .before .before .before .before .args .records .now) (c .before .before .before .before .loop .w) _ (sym (c .before .before .before .step-at .ensures) ∙ c .before .s .given .1) .2
+line-length-requires c κs =
+    let p = c .before .before .before in
+    let a = p .before .before .before .before .args in
+    step-moves (a .records .now) (p .before .loop .w) _ (sym (p .step-at .ensures) ∙ c .before .s .given .1) .2
 
 add-need : tie.Need-add-need Inv-loop μ-loop
-add-need c = let m = measuring-value (c .before .before .before .before .before .loop .inv) (sym (c .before .before .before .before .step-at .ensures) ∙ c .before .before .s .given .1) in rw (c .line-length .ensures) (omega (arith, m .small, m .inside))
+add-need c =
+    let p = c .before .before .before .before in
+    let m = measuring-value (p .before .loop .inv) (sym (p .step-at .ensures) ∙ c .before .before .s .given .1) in
+    rw (c .line-length .ensures) (omega (arith, m .small, m .inside))
 
 loop-less : tie.Need-loop-less Inv-loop μ-loop
-loop-less c = let m = step-moves (c .before .before .before .before .before .before .before .before .args .records .now) (c .before .before .before .before .before .loop .w) _ (sym (c .before .before .before .before .step-at .ensures) ∙ c .before .before .s .given .1) in omega (arith, m .0, m .1)
+loop-less c =
+    let p = c .before .before .before .before in
+    let a = p .before .before .before .before .args in
+    let m = step-moves (a .records .now) (p .before .loop .w) _ (sym (p .step-at .ensures) ∙ c .before .before .s .given .1) in
+    omega (arith, m .0, m .1)
 
 loop-again : tie.Need-loop-again Inv-loop μ-loop
-loop-again c = rw (c .line-length .ensures) (measuring-value (c .before .before .before .before .before .loop .inv) (sym (c .before .before .before .before .step-at .ensures) ∙ c .before .before .s .given .1))
+loop-again c =
+    let p = c .before .before .before .before in
+    rw (c .line-length .ensures) (measuring-value (p .before .loop .inv) (sym (p .step-at .ensures) ∙ c .before .before .s .given .1))
 
 enum-known-s-2 : tie.Need-enum-known-s-2 Inv-loop μ-loop
 enum-known-s-2 c = search needs
@@ -53,13 +65,22 @@ line-length-requires-2 : tie.Need-line-length-requires-2 Inv-loop μ-loop
 line-length-requires-2 c κs = rw (c .decimal-length .ensures) (decimal-few (c .before .before .s2 .given .0 .1 .0) (omega arith))
 
 add-need-2 : tie.Need-add-need-2 Inv-loop μ-loop
-add-need-2 c = let m = measuring-count (c .before .before .before .before .before .before .loop .inv) (sym (c .before .before .before .before .before .step-at .ensures) ∙ c .before .before .before .s2 .given .1) (omega arith) in rw (c .line-length2 .ensures, c .before .decimal-length .ensures) (omega (arith, m .small, m .inside))
+add-need-2 c =
+    let p = c .before .before .before in
+    let m = measuring-count (p .before .before .before .loop .inv) (sym (p .before .before .step-at .ensures) ∙ p .s2 .given .1) (omega arith) in
+    rw (c .line-length2 .ensures, c .before .decimal-length .ensures) (omega (arith, m .small, m .inside))
 
 loop-less-2 : tie.Need-loop-less-2 Inv-loop μ-loop
-loop-less-2 c = let m = step-moves (c .before .before .before .before .before .before .before .before .before .args .records .now) (c .before .before .before .before .before .before .loop .w) _ (sym (c .before .before .before .before .before .step-at .ensures) ∙ c .before .before .before .s2 .given .1) in omega (arith, m .0, m .1)
+loop-less-2 c =
+    let p = c .before .before .before in
+    let a = p .before .before .before .before .before .before .args in
+    let m = step-moves (a .records .now) (p .before .before .before .loop .w) _ (sym (p .before .before .step-at .ensures) ∙ p .s2 .given .1) in
+    omega (arith, m .0, m .1)
 
 loop-again-2 : tie.Need-loop-again-2 Inv-loop μ-loop
-loop-again-2 c = rw (c .line-length2 .ensures, c .before .decimal-length .ensures) (measuring-count (c .before .before .before .before .before .before .loop .inv) (sym (c .before .before .before .before .before .step-at .ensures) ∙ c .before .before .before .s2 .given .1) (omega arith))
+loop-again-2 c =
+    let p = c .before .before .before in
+    rw (c .line-length2 .ensures, c .before .decimal-length .ensures) (measuring-count (p .before .before .before .loop .inv) (sym (p .before .before .step-at .ensures) ∙ p .s2 .given .1) (omega arith))
 
 enum-told : tie.Need-enum-told Inv-loop μ-loop
 enum-told c = search needs

@@ -34,13 +34,22 @@ part-requires : tie.Need-part-requires Inv-loop μ-loop
 part-requires c κs = search needs
 
 put-value-requires : tie.Need-put-value-requires Inv-loop μ-loop
-put-value-requires c κs = value-fits (c .before .before .before .before .before .before .before .loop .inv) (sym (c .before .before .before .before .before .before .step-at .ensures) ∙ c .before .before .before .before .s .given .1) (c .before .part .ensures)
+put-value-requires c κs =
+    let p = c .before .before .before .before in
+    value-fits (p .before .before .before .loop .inv) (sym (p .before .before .step-at .ensures) ∙ p .s .given .1) (c .before .part .ensures)
 
 loop-less : tie.Need-loop-less Inv-loop μ-loop
-loop-less c = let m = step-moves (c .before .before .before .before .before .before .before .before .before .before .before .before .before .before .args .records .now) (c .before .before .before .before .before .before .before .before .before .before .loop .w) _ (sym (c .before .before .before .before .before .before .before .before .before .step-at .ensures) ∙ c .before .before .before .before .before .before .before .s .given .1) in omega (arith, m .0, m .1)
+loop-less c =
+    let p = c .before .before .before .before .before .before .before in
+    let a = p .before .before .before .before .before .before .before .args in
+    let m = step-moves (a .records .now) (p .before .before .before .loop .w) _ (sym (p .before .before .step-at .ensures) ∙ p .s .given .1) in
+    omega (arith, m .0, m .1)
 
 loop-again : tie.Need-loop-again Inv-loop μ-loop
-loop-again c = value-more (c .before .before .before .before .before .before .before .before .before .before .loop .inv) (sym (c .before .before .before .before .before .before .before .before .before .step-at .ensures) ∙ c .before .before .before .before .before .before .before .s .given .1) (c .before .before .before .before .part .ensures) (c .before .before .put-value .ensures)
+loop-again c =
+    let p = c .before .before .before .before .before .before .before in
+    value-more (p .before .before .before .loop .inv) (sym (p .before .before .step-at .ensures) ∙ p .s .given .1) (c .before .before .before .before .part .ensures)
+    (c .before .before .put-value .ensures)
 
 enum-known-s-2 : tie.Need-enum-known-s-2 Inv-loop μ-loop
 enum-known-s-2 c = search needs
@@ -49,10 +58,16 @@ put-count-requires : tie.Need-put-count-requires Inv-loop μ-loop
 put-count-requires c κs = count-fits (c .before .before .before .before .before .loop .inv) (sym (c .before .before .before .before .step-at .ensures) ∙ c .before .before .s2 .given .1)
 
 loop-less-2 : tie.Need-loop-less-2 Inv-loop μ-loop
-loop-less-2 c = let m = step-moves (c .before .before .before .before .before .before .before .before .before .before .before .before .args .records .now) (c .before .before .before .before .before .before .before .before .loop .w) _ (sym (c .before .before .before .before .before .before .before .step-at .ensures) ∙ c .before .before .before .before .before .s2 .given .1) in omega (arith, m .0, m .1)
+loop-less-2 c =
+    let p = c .before .before .before .before .before in
+    let a = p .before .before .before .before .before .before .before .args in
+    let m = step-moves (a .records .now) (p .before .before .before .loop .w) _ (sym (p .before .before .step-at .ensures) ∙ p .s2 .given .1) in
+    omega (arith, m .0, m .1)
 
 loop-again-2 : tie.Need-loop-again-2 Inv-loop μ-loop
-loop-again-2 c = count-more (c .before .before .before .before .before .before .before .before .loop .inv) (sym (c .before .before .before .before .before .before .before .step-at .ensures) ∙ c .before .before .before .before .before .s2 .given .1) (c .before .before .put-count .ensures)
+loop-again-2 c =
+    let p = c .before .before .before .before .before in
+    count-more (p .before .before .before .loop .inv) (sym (p .before .before .step-at .ensures) ∙ p .s2 .given .1) (c .before .before .put-count .ensures)
 
 enum-told : tie.Need-enum-told Inv-loop μ-loop
 enum-told c = search needs
