@@ -25,6 +25,7 @@ pub enum LexError {
     InvalidVariableChar(u32),
 }
 
+// What lexing answers.
 pub enum Lexed {
     // the number of tokens, and of bytes in the pool
     Tokens(usize, usize),
@@ -32,8 +33,10 @@ pub enum Lexed {
     Refused(LexError, usize),
 }
 
+// What the first pass finds.
 pub enum Verdict {
     Fine,
+    // the first refusal, with the place of the `$`
     Bad(LexError, usize),
 }
 
@@ -48,6 +51,7 @@ fn error_at(text: &[u8], kind: u32, from: usize) -> LexError
     LexError::InvalidVariableChar(c)
 }
 
+// The first pass.
 fn find_refusal(text: &[u8]) -> Verdict
     ensures { λ r. ⌜ Judges (now (text .entry)) r ⌝ }
 {
@@ -118,12 +122,13 @@ fn put_token(
     used
 }
 
+// How many tokens the workspace holds, and how many bytes of text the pool.
 pub struct Filled {
     pub count: usize,
     pub used: usize,
 }
 
-// The tokens of a text that isn't refused.
+// The second pass: the tokens of a text that isn't refused.
 fn fill(text: &[u8], ws: &mut [u32], pool: &mut [u8]) -> Filled
     requires { ⌜ Fillable (now text) (now ws) (now pool) ⌝ }
     ensures { λ r. ⌜ Holds (now (text .entry)) (now (ws .entry)) (now (ws .exit)) (now (pool .entry)) (now (pool .exit)) (r .count) (r .used) ⌝ }
