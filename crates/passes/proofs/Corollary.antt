@@ -1,19 +1,18 @@
 -- What the answer of `resolve_variables` says by the rules, and so demand 3 of it. Assumes nothing.
-use Prim.Native.Nat.{ℕ, _+_, _*_, _-_, _≤_}
+use Prim.Native.Nat.{ℕ, _*_, _-_}
 use mathlib.Core.Path.{_≡_, refl, sym, _∙_, ap}
 use mathlib.Core.Logic.{_↔_}
-use mathlib.Core.List.{List, [], _++_}
+use mathlib.Core.List.{List, []}
 use native.Mathlib.Omega.{arith}
-use lib.ListN.{length, replicate, length-append, length-replicate, take, drop, length-take}
+use lib.ListN.{length, replicate, length-append, length-replicate, drop, length-take}
 use Rattle.rules.specs.Tokens.{Token}
 use Rattle.rules.specs.Numbers.{InVariable, UndefinedVariable, ContentTooLarge, Result, refused, ok}
 use Rattle.rules.specs.Lines.{Assignment}
 use Rattle.rules.specs.Variables.{Found, Resolved, tooLarge, lacks, resolved, rulesOf, resolve, keyAt, resolveVariables}
 use Rattle.rules.specs.Demand3.{TooLarge, Numbered, Lacks, Demand3}
-use Rattle.rules.proofs.Lengths.{Settles, entries, settlesOf, resolveLens, resolve-lens}
+use Rattle.rules.proofs.Lengths.{entries, settlesOf, resolveLens, resolve-lens}
 use Rattle.rules.proofs.TableLaws.{Sorted}
-use Rattle.rules.proofs.Demand3Laws.{Handed, handed, resolve-exactly, values-are, cycle, leads-assigned, too-large-exactly, lacks-exactly}
-use Rattle.scan.specs.Stores.{puts}
+use Rattle.rules.proofs.Demand3Laws.{resolve-exactly, values-are, cycle, leads-assigned, too-large-exactly, lacks-exactly}
 use Rattle.scan.proofs.Stores.{length-puts}
 use Rattle.tokens.specs.Entries.{decode, tokenAt}
 use Rattle.workspace.specs.Map.{variablesIn, lengthsOf, rulesIn, Looked, Room}

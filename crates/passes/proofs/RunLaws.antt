@@ -1,24 +1,27 @@
 -- All passes, from the cleared columns to the answer. Assumes nothing.
-use Prim.Native.Nat.{ℕ, zero, suc, _+_, _*_, _-_, _≤_, _<_}
+use Prim.Native.Nat.{ℕ, suc, _+_, _*_, _-_, _/_, _≤_, _<_}
 use mathlib.Core.Path.{_≡_, refl, sym, _∙_, ap, ap₂}
 use mathlib.Core.Bool.{true, false}
-use mathlib.Core.List.{List, [], _∷_, _++_}
-use native.Mathlib.Nat.{zero-add, sub-zero, add-zero}
+use mathlib.Core.List.{List, _++_}
+use native.Mathlib.Nat.{zero-add, sub-zero}
 use native.Mathlib.Omega.{arith}
 use lib.ListN.{length, getD, take, drop, replicate, length-append, length-drop, length-replicate, getD-replicate, take-append-drop}
-use lib.Seq.{getD-take, getD-drop, ext-getD, drop-drop, take-add, length-take-le, take-at}
+use lib.Seq.{getD-take, getD-drop, ext-getD, take-add, length-take-le}
 use Rattle.rules.specs.Tokens.{Token}
-use Rattle.rules.specs.Variables.{Piece}
 use Rattle.rules.proofs.Lengths.{Lens, passLens, Settles, leftLens, passesLens, resolveLens}
 use Rattle.scan.specs.Stores.{puts}
 use Rattle.scan.proofs.Stores.{length-puts, take-puts, drop-puts, puts-puts, puts-eq, getD-stored, column-before}
-use Rattle.tokens.specs.Entries.{decode, tokenAt}
+use Rattle.tokens.specs.Entries.{tokenAt}
 use Rattle.workspace.specs.Map.{lengthsOf, rulesIn, Room}
-use Rattle.workspace.proofs.Frames.{decode-low, take-low, column-low, rules-low}
-use Rattle.passes.specs.Visits.{stopsOf, sumsOf, State, zeros, passFrom, Stuck, meaning}
-use Rattle.passes.specs.Passes.{Passes, countLens, passCount, Fresh, Runs, keptOf, columns, Resolves}
-use Rattle.passes.proofs.States.{few, column-length, rule-rest, same-rules, same-tokens, state-here, state-then}
+use Rattle.workspace.proofs.Frames.{decode-low, rules-low}
+use Rattle.passes.specs.Visits.{State, zeros, Stuck, meaning}
+use Rattle.passes.specs.Passes.{Turning, Passes, countLens, passCount, Ready, Runs, keptOf, columns, Resolves}
+use Rattle.passes.proofs.States.{few, column-length, rule-rest, same-rules, state-here, state-then}
 use Rattle.passes.proofs.Turns.{zeros-replicate, rules-count}
+use Rattle.passes.proofs.Bits.{all-bits}
+use Rattle.passes.proofs.Waits.{rests-here}
+use Rattle.passes.proofs.PassLaws.{block-bit}
+use Rattle.rules.proofs.BytesLaws.{false-true}
 use Rattle.passes.specs.declared.Passed.the-variants as Pas
 use Rattle.passes.specs.declared.visits.Settled.{Settled}
 use Rattle.passes.specs.declared.visits.Settled.the-variants as Set
@@ -47,8 +50,8 @@ module _ {n count v : ℕ} {ws₀ : List ℕ} (R : Room n count v ws₀) (pool w
   room-cleared : Room n count v ws
   room-cleared = record { small = R .small; room = omega (arith, long-cleared, R .room); tokens = R .tokens; few = R .few }
 
-  pub cleared-fresh : Fresh n count v pool ws
-  cleared-fresh =
+  pub cleared-ready : (w : ℕ) → w ≡ v / 32 + 1 → Ready n count v w pool ws
+  cleared-ready w q =
       let f = few R in
       record {
         state = record {
@@ -64,6 +67,7 @@ module _ {n count v : ℕ} {ws₀ : List ℕ} (R : Room n count v ws₀) (pool w
             (λ i h.
             let l = column-length room-cleared (8 * n) (omega arith) in
             zero-in (8 * n) i (omega arith) (omega arith) (omega arith) ∙ sym (getD-replicate v i 0 0 (omega arith)));
+        blocks = record { some = omega arith; wide = omega arith; narrow = omega (arith, few R, R .small) };
       }
 
 -- after `passes` passes: what is left comes to the whole
@@ -73,9 +77,9 @@ pub record Resolving (n count v : ℕ) (pool ws₀ ws : List ℕ) (passes : ℕ)
   pub rest : passesLens (suc (v - passes)) (rulesIn n count v ws₀ pool) (lengthsOf n v ws) ≡ resolveLens (rulesIn n count v ws₀ pool)
   pub so-far : passes + countLens (suc (v - passes)) (rulesIn n count v ws₀ pool) (lengthsOf n v ws) ≡ passCount (rulesIn n count v ws₀ pool)
 
-pub run-start : (n count v : ℕ) (pool ws : List ℕ) → Fresh n count v pool ws → Resolving n count v pool ws ws 0
+run-resolving : (n count v w : ℕ) (pool ws : List ℕ) → Ready n count v w pool ws → Resolving n count v pool ws ws 0
 unfolding resolveLens passCount
-run-start n count v pool ws F =
+run-resolving n count v w pool ws F =
     let l = rules-count (F .state .room) pool in
     record {
       state = F .state;
@@ -84,21 +88,40 @@ run-start n count v pool ws F =
       so-far = rw (F .none, l, sub-zero) (zero-add (countLens (suc v) (rulesIn n count v ws pool) (replicate v 0)));
     }
 
-module _ {n count v : ℕ} {pool ws₀ ws : List ℕ} {passes : ℕ} (G : Resolving n count v pool ws₀ ws passes) where
+-- with the blocks that are due
+pub record Running (n count v w : ℕ) (pool ws₀ ws : List ℕ) (passes due : ℕ) : Type 0 where
+  pub resolving : Resolving n count v pool ws₀ ws passes
+  pub turning : Turning n count v w due pool ws
+
+pub run-start : (n count v w : ℕ) (pool ws : List ℕ) → Ready n count v w pool ws → Running n count v w pool ws ws 0 4294967295
+run-start n count v w pool ws R =
+    record {
+      resolving = run-resolving n count v w pool ws R;
+      turning = record {
+        state = R .state;
+        blocks = R .blocks;
+        covers = record { at = λ t b h m o. absurd (false-true o (all-bits b (block-bit b w v (b * w) refl (R .blocks .wide) (omega (arith, m .0))))) };
+      };
+    }
+
+module _ {n count v w : ℕ} {pool ws₀ ws : List ℕ} {passes due : ℕ} (Q : Running n count v w pool ws₀ ws passes due) where
+  G : Resolving n count v pool ws₀ ws passes
+  G = Q .resolving
+
   pub run-bound : passes ≤ v
   run-bound = omega (arith, G .bound)
 
   module _ (ws′ : List ℕ) where
-    pub run-over : (i : ℕ) → State n count v pool ws ws′ × Passes n count v pool ws ws′ (Pas.Stopped i) → Runs n count v pool ws₀ ws′ (Set.TooLarge i) (passes + 1)
+    pub run-over : (i : ℕ) → State n count v pool ws ws′ × Passes n count v w pool ws ws′ (Pas.Stopped i) → Runs n count v pool ws₀ ws′ (Set.TooLarge i) (passes + 1)
     unfolding passesLens countLens
     run-over i a =
         let S = state-then (G .state) (a .0) in
         let q : passLens 0 (rulesIn n count v ws₀ pool) false (lengthsOf n v ws) ≡ Lens.stopped i = rw (same-rules (G .state)) at (a .1) in
         record { is-answer = rw (q, passesLens) at (G .rest); is-count = rw (q, countLens) at (G .so-far); long = S .long; low = S .low; high = S .high }
 
-    pub run-more : State n count v pool ws ws′ × Passes n count v pool ws ws′ Pas.Found → Resolving n count v pool ws₀ ws′ (passes + 1)
+    resolving-more : (m : ℕ) → State n count v pool ws ws′ × Passes n count v w pool ws ws′ (Pas.Found m) → Resolving n count v pool ws₀ ws′ (passes + 1)
     unfolding passesLens countLens
-    run-more a =
+    resolving-more m a =
         let q : passLens 0 (rulesIn n count v ws₀ pool) false (lengthsOf n v ws) ≡ Lens.passed true (lengthsOf n v ws′) = rw (same-rules (G .state)) at (a .1 .1) in
         let k : v - passes ≡ suc (v - (passes + 1)) = omega (arith, G .bound, a .1 .0) in
         record {
@@ -108,7 +131,18 @@ module _ {n count v : ℕ} {pool ws₀ ws : List ℕ} {passes : ℕ} (G : Resolv
           so-far = ap (λ (x : ℕ). passes + 1 + countLens x (rulesIn n count v ws₀ pool) (lengthsOf n v ws′)) (sym k) ∙ omega (arith, rw (q, countLens) at (G .so-far));
         }
 
-    module _ (a : State n count v pool ws ws′ × Passes n count v pool ws ws′ Pas.Idle) where
+    pub run-more : (m : ℕ) → State n count v pool ws ws′ × Passes n count v w pool ws ws′ (Pas.Found m) → Running n count v w pool ws₀ ws′ (passes + 1) m
+    run-more m a =
+        record {
+          resolving = resolving-more m a;
+          turning = record {
+            state = state-here (a .0);
+            blocks = Q .turning .blocks;
+            covers = record { at = λ t b h k o. rests-here (a .0) t b h ws′ (a .1 .2 .at t b h k o) };
+          };
+        }
+
+    module _ (a : State n count v pool ws ws′ × Passes n count v w pool ws ws′ Pas.Idle) where
       pub idle-stuck : Stuck n count v v pool ws′ (lengthsOf n v ws′)
       idle-stuck = rw (same-rules (a .0)) (a .1 .0)
 
@@ -176,11 +210,7 @@ module _ {n count v : ℕ} {ws₀ : List ℕ} (R : Room n count v ws₀) (pool w
     over-first : puts ws₁ (8 * n) (stays ++ replicate (4 * n - k) 0) ≡ puts ws₀ (8 * n) (stays ++ replicate (4 * n - k) 0)
     over-first =
         let q : 8 * n + length (stays ++ replicate (4 * n - k) 0) ≡ 12 * n = omega (arith, length-columns) in
-        let d : 11 * n + n ≡ 12 * n = omega arith in
-        let h : drop (12 * n) ws₁ ≡ drop (12 * n) ws₀ =
-        ap (λ (x : ℕ). drop x ws₁) (sym d) ∙ sym (drop-drop n (11 * n) ws₁) ∙ ap (drop n) (A .high) ∙ drop-drop n (11 * n) ws ∙ ap (λ (x : ℕ). drop x ws) d ∙ high-cleared R pool ws e
-        in
-        puts-window ws₁ ws₀ (8 * n) (stays ++ replicate (4 * n - k) 0) long-all (omega (arith, q, room-all)) (A .low ∙ low-cleared R pool ws e) (rw q h)
+        puts-window ws₁ ws₀ (8 * n) (stays ++ replicate (4 * n - k) 0) long-all (omega (arith, q, room-all)) (A .low ∙ low-cleared R pool ws e) (rw q (A .high ∙ high-cleared R pool ws e))
 
     is-columns : stays ++ replicate (4 * n - k) 0 ≡ columns n (meaning n count v ws₁ pool r)
     unfolding columns stays

@@ -1,5 +1,5 @@
 -- The passes on lengths: document 01, "Variables, then fields". Assumes nothing.
-use Prim.Native.Nat.{ℕ, zero, suc, _*_, _-_, _<_}
+use Prim.Native.Nat.{ℕ, zero, suc, _*_, _-_, _≤_, _<_}
 use mathlib.Core.Path.{_≡_}
 use mathlib.Core.Bool.{true, false}
 use mathlib.Core.List.{List, _++_}
@@ -9,17 +9,34 @@ use Rattle.rules.proofs.Lengths.{Lens, passLens, stopped, passed, Settles, sett
 use Rattle.scan.specs.Stores.{puts}
 use Rattle.workspace.specs.Map.{lengthsOf, rulesIn}
 use Rattle.passes.specs.Visits.{State, zeros, passFrom, Stuck, meaning}
+use Rattle.passes.specs.Blocks.{bitAt, Block, Rests}
 use Rattle.passes.specs.declared.Passed.{Passed}
 use Rattle.passes.specs.declared.Passed.the-variants as Pas
 use Rattle.passes.specs.declared.visits.Settled.{Settled}
 use Rattle.passes.specs.declared.visits.Settled.the-variants as Set
 
+-- all that may find something new stand in the blocks of m, of w variables each
+pub record Covers (n count v w m : ℕ) (pool ws₀ ws : List ℕ) : Type 0 where
+  pub at : (t b : ℕ) → t < v → Block w t b → bitAt m b ≡ false → Rests n count v pool ws₀ ws t b
+
+-- there are at most 32 blocks
+pub record Wide (v w : ℕ) : Type 0 where
+  pub some : 1 ≤ w
+  pub wide : v ≤ 32 * w
+  pub narrow : w ≤ 65535
+
+pub record Turning (n count v w m : ℕ) (pool ws : List ℕ) : Type 0 where
+  pub state : State n count v pool ws ws
+  pub blocks : Wide v w
+  pub covers : Covers n count v w m pool ws ws
+
 -- one pass
-abbrev pub Passes : ℕ → ℕ → ℕ → List ℕ → List ℕ → List ℕ → Passed → Type 0
-Passes n count v pool ws ws′ (Pas.Stopped i) = passFrom n count v ws pool 0 false (lengthsOf n v ws) ≡ Lens.stopped i
-Passes n count v pool ws ws′ Pas.Found =
+abbrev pub Passes : ℕ → ℕ → ℕ → ℕ → List ℕ → List ℕ → List ℕ → Passed → Type 0
+Passes n count v w pool ws ws′ (Pas.Stopped i) = passFrom n count v ws pool 0 false (lengthsOf n v ws) ≡ Lens.stopped i
+Passes n count v w pool ws ws′ (Pas.Found m) =
     (zeros (lengthsOf n v ws′) < zeros (lengthsOf n v ws)) × (passFrom n count v ws pool 0 false (lengthsOf n v ws) ≡ Lens.passed true (lengthsOf n v ws′))
-Passes n count v pool ws ws′ Pas.Idle =
+    × Covers n count v w m pool ws ws′
+Passes n count v w pool ws ws′ Pas.Idle =
     Stuck n count v v pool ws (lengthsOf n v ws′) × (passFrom n count v ws pool 0 false (lengthsOf n v ws) ≡ Lens.passed false (lengthsOf n v ws′))
 
 -- how many passes are made, the last idle one included
@@ -34,9 +51,10 @@ unfoldable pub passCount : List (List Piece) → ℕ
 passCount rules = countLens (suc (length rules)) rules (replicate (length rules) 0)
 
 -- no variable has a value, and each starts anew
-pub record Fresh (n count v : ℕ) (pool ws : List ℕ) : Type 0 where
+pub record Ready (n count v w : ℕ) (pool ws : List ℕ) : Type 0 where
   pub state : State n count v pool ws ws
   pub none : lengthsOf n v ws ≡ replicate v 0
+  pub blocks : Wide v w
 
 -- the answer of all passes, and what is as it was
 pub record Runs (n count v : ℕ) (pool ws ws′ : List ℕ) (r : Settled) (passes : ℕ) : Type 0 where
@@ -44,7 +62,7 @@ pub record Runs (n count v : ℕ) (pool ws ws′ : List ℕ) (r : Settled) (pass
   pub is-count : passes ≡ passCount (rulesIn n count v ws pool)
   pub long : length ws′ ≡ length ws
   pub low : take (8 * n) ws′ ≡ take (8 * n) ws
-  pub high : drop (11 * n) ws′ ≡ drop (11 * n) ws
+  pub high : drop (12 * n) ws′ ≡ drop (12 * n) ws
 
 -- how many lengths stay
 abbrev pub keptOf : Settled → ℕ → ℕ

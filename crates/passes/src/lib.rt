@@ -2,19 +2,22 @@
 ghost use mathlib.Core.Path.{_≡_};
 ghost use Rattle.workspace.specs.Map.{Room};
 ghost use Rattle.passes.specs.Visits.{State};
-ghost use Rattle.passes.specs.Passes.{Passes, Fresh, Runs, keptOf, Resolves};
+ghost use Rattle.passes.specs.Passes.{Turning, Passes, Ready, Runs, keptOf, Resolves};
+use crate::blocks::Turned;
+use crate::blocks::has;
+use crate::blocks::turn;
 use crate::visits::Settled;
-use crate::visits::Visited;
 use crate::visits::left;
-use crate::visits::step;
 use scan::store::zero_from;
 
+pub mod blocks;
 pub mod sums;
 pub mod visits;
 
+// What a pass does: it stops at this variable, whose value is too large; it finds values, and these blocks wait for them; it finds none.
 pub enum Passed {
     Stopped(usize),
-    Found,
+    Found(u32),
     Idle,
 }
 
@@ -24,38 +27,57 @@ pub struct Outcome {
     pub passes: usize,
 }
 
-// One pass over all variables in byte order.
-fn pass(ws: &mut [u32], pool: &[u8], n: usize, count: usize, v: usize) -> Passed
-    requires { ⌜ State n count v (now pool) (now ws) (now ws) ⌝ }
-    ensures { λ r. ⌜ State n count v (now (pool .entry)) (now (ws .entry)) (now (ws .exit)) × Passes n count v (now (pool .entry)) (now (ws .entry)) (now (ws .exit)) r ⌝ }
+// One pass over all variables in byte order. Of the blocks of w variables only those of `set` are due, and those that wait for a value found:
+// in the others all rest.
+fn pass(ws: &mut [u32], pool: &[u8], n: usize, count: usize, v: usize, w: usize, set: u32) -> Passed
+    requires { ⌜ Turning n count v w set (now pool) (now ws) ⌝ }
+    ensures { λ r. ⌜ State n count v (now (pool .entry)) (now (ws .entry)) (now (ws .exit)) × Passes n count v w (now (pool .entry)) (now (ws .entry)) (now (ws .exit)) r ⌝ }
 {
+    let mut due = set;
+    let mut next = 0u32;
     let mut found = false;
     let mut i = 0;
+    let mut lo = 0;
+    let mut b = 0u32;
     while i < v {
-        let r = step(ws, pool, n, count, v, i);
-        let k = i;
-        i += 1;
-        match r {
-            Visited::Over => {
-                return Passed::Stopped(k);
+        if lo + w <= i {
+            lo += w;
+            b += 1;
+        } else if has(due, b) {
+            let r = turn(ws, pool, n, count, v, i, b);
+            let k = i;
+            i += 1;
+            match r {
+                Turned::Over => {
+                    return Passed::Stopped(k);
+                }
+                Turned::Nothing => {}
+                Turned::Wakes(m) => {
+                    due = due | m;
+                    next = next | m;
+                    found = true;
+                }
             }
-            Visited::Blocked => {}
-            Visited::Valued => {
-                found = true;
-            }
+        } else {
+            i = lo + w;
         }
     }
-    if found { Passed::Found } else { Passed::Idle }
+    if found {
+        Passed::Found(next)
+    } else {
+        Passed::Idle
+    }
 }
 
 // Passes until one finds nothing. Each other finds a value, so there are at most v + 1.
-fn run(ws: &mut [u32], pool: &[u8], n: usize, count: usize, v: usize) -> Outcome
-    requires { ⌜ Fresh n count v (now pool) (now ws) ⌝ }
+fn run(ws: &mut [u32], pool: &[u8], n: usize, count: usize, v: usize, w: usize) -> Outcome
+    requires { ⌜ Ready n count v w (now pool) (now ws) ⌝ }
     ensures { λ r. ⌜ Runs n count v (now (pool .entry)) (now (ws .entry)) (now (ws .exit)) (r .settled) (r .passes) ⌝ }
 {
     let mut passes = 0;
+    let mut due = 4294967295u32;
     loop {
-        let r = pass(ws, pool, n, count, v);
+        let r = pass(ws, pool, n, count, v, w, due);
         passes += 1;
         match r {
             Passed::Stopped(i) => {
@@ -64,7 +86,9 @@ fn run(ws: &mut [u32], pool: &[u8], n: usize, count: usize, v: usize) -> Outcome
                     passes,
                 };
             }
-            Passed::Found => {}
+            Passed::Found(m) => {
+                due = m;
+            }
             Passed::Idle => {
                 return Outcome {
                     settled: left(ws, pool, n, count, v),
@@ -92,7 +116,7 @@ pub fn resolve_variables(ws: &mut [u32], pool: &[u8], n: usize, count: usize, v:
     ensures { λ r. ⌜ Resolves n count v (now (pool .entry)) (now (ws .entry)) (now (ws .exit)) (r .settled) (r .passes) ⌝ }
 {
     zero_from(ws, 8 * n, 4 * n);
-    let outcome = run(ws, pool, n, count, v);
+    let outcome = run(ws, pool, n, count, v, v / 32 + 1);
     let settled = outcome.settled;
     let k = kept(settled, v);
     zero_from(ws, 8 * n + k, 4 * n - k);

@@ -2,7 +2,7 @@
 use Prim.Native.Nat.{ℕ, zero, suc, _+_, _-_, _<_, _≤_}
 use mathlib.Core.Path.{_≡_, refl, ap, sym, _∙_, subst}
 use mathlib.Core.List.{List, []}
-use mathlib.Core.Bool.{Bool, true, false, _&&_}
+use mathlib.Core.Bool.{Bool, true, false}
 use mathlib.Core.Option.{Option, none, some}
 use native.Mathlib.Nat.{sub-zero}
 use native.Mathlib.Omega.{arith}
@@ -10,14 +10,11 @@ use lib.Dec.{leb, eqb}
 use lib.ListN.{length, take, drop, length-drop}
 use lib.Seq.{length-take-le}
 use borrow.Author.Tests.{leb-true, leb-false, eqb-true, eq-eqb, ne-eqb}
-use Rattle.rules.specs.Bytes.{pick, fromLittle}
-use Rattle.rules.specs.Lines.{isString}
+use Rattle.rules.specs.Bytes.{pick}
 use Rattle.rules.specs.Variables.{limit}
 use Rattle.rules.specs.Listing as Rules
-use Rattle.rules.proofs.BytesLaws.{and-true}
-use Rattle.walker.specs.declared.Front.the-variants.{Whole, Broken}
 use Rattle.walker.specs.declared.Form.{Form}
-use Rattle.walker.specs.declared.Form.the-variants.{Argument, String, List as AList, Wrong}
+use Rattle.walker.specs.declared.Form.the-variants.{List as AList, Wrong}
 use Rattle.walker.specs.declared.Walk.{Walk}
 use Rattle.walker.specs.declared.Step.{Step}
 use Rattle.walker.specs.declared.Step.the-variants.{Value, Count, End, Refused}

@@ -114,6 +114,18 @@ pub record Holds (n count v : ℕ) (ws pool : List ℕ) (file : File) : Type 0 w
   pub variables : variablesIn n count v ws pool ≡ file .variables
   pub fields : (f : ℕ) → 1 ≤ f → f ≤ 10 → fieldIn n count ws pool f ≡ fieldAt f (file .fields)
 
+-- the fields that are given, of k from the f-th on
+unfoldable pub fieldsIn : ℕ → ℕ → List ℕ → List ℕ → ℕ → ℕ → List Field
+fieldsIn n count ws pool zero f = []
+fieldsIn n count ws pool (suc k) f = elim (fieldIn n count ws pool f) [
+  | none ↦ fieldsIn n count ws pool k (suc f)
+  | some g ↦ g ∷ fieldsIn n count ws pool k (suc f)
+]
+
+-- the file that workspace and pool hold, its fields by number
+unfoldable pub fileIn : ℕ → ℕ → ℕ → List ℕ → List ℕ → File
+fileIn n count v ws pool = record { variables = variablesIn n count v ws pool; fields = fieldsIn n count ws pool 10 1 }
+
 -- the room that all layers have; an assignment is a key, `=` and a newline, but for the last
 pub record Room (n count v : ℕ) (ws : List ℕ) : Type 0 where
   pub small : n ≤ 65535

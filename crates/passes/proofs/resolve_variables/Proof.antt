@@ -1,5 +1,6 @@
+use mathlib.Core.Path.{refl}
 use native.Mathlib.Omega.{arith}
-use Rattle.passes.proofs.RunLaws.{cleared-fresh, small-kept, room-all, resolved}
+use Rattle.passes.proofs.RunLaws.{cleared-ready, small-kept, room-all, resolved}
 use borrow.Author.Needs.{needs}
 use Rattle.passes.proofs.resolve_variables.Statement.{statement}
 use Rattle.passes.proofs.resolve_variables.Tie as tie
@@ -13,8 +14,11 @@ mul-zero-from-2 c = search needs
 zero-from-requires : tie.Need-zero-from-requires
 zero-from-requires c κs = search needs
 
+add-run : tie.Need-add-run
+add-run c = search needs
+
 run-requires : tie.Need-run-requires
-run-requires c κs = cleared-fresh (c .before .before .before .before .before .before .before .pre) (c .before .before .before .before .before .before .before .args .pool .now) _ (c .before .before .before .zero-from .ensures)
+run-requires c κs = cleared-ready (c .before .before .before .before .before .before .before .pre) (c .before .before .before .before .before .before .before .args .pool .now) _ (c .before .before .before .zero-from .ensures) _ refl
 
 kept-requires : tie.Need-kept-requires
 kept-requires c κs = search needs
@@ -47,6 +51,7 @@ resolve-variables-spec =
     mul-zero-from
     mul-zero-from-2
     zero-from-requires
+    add-run
     run-requires
     kept-requires
     mul-zero-from-3

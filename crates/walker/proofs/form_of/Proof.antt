@@ -13,13 +13,19 @@ returns-3 : tie.Need-returns-3
 returns-3 c = form-low (c .before .before .args .last) (c .before .before .args .due) (c .before .before .args .kind) (c .before .if1 .left) (c .if3 .taken)
 
 returns-4 : tie.Need-returns-4
-returns-4 c = form-string (c .before .before .before .args .last) (c .before .before .before .args .due) (c .before .before .before .args .kind) (c .before .before .if1 .left) (c .before .if3 .left) (c .if4 .taken)
+returns-4 c =
+    let p = c .before .before .before in
+    form-string (p .args .last) (p .args .due) (p .args .kind) (c .before .before .if1 .left) (c .before .if3 .left) (c .if4 .taken)
 
 returns-5 : tie.Need-returns-5
-returns-5 c = form-list (c .before .before .before .before .args .last) (c .before .before .before .before .args .due) (c .before .before .before .before .args .kind) (c .before .before .before .if1 .left) (c .before .before .if3 .left) (c .before .if4 .left) (c .if5 .taken)
+returns-5 c =
+    let p = c .before .before .before in
+    form-list (p .before .args .last) (p .before .args .due) (p .before .args .kind) (p .if1 .left) (c .before .before .if3 .left) (c .before .if4 .left) (c .if5 .taken)
 
 returns-6 : tie.Need-returns-6
-returns-6 c = form-high (c .before .before .before .before .args .last) (c .before .before .before .before .args .due) (c .before .before .before .before .args .kind) (c .before .before .before .if1 .left) (c .before .before .if3 .left) (c .before .if4 .left) (c .if5 .left)
+returns-6 c =
+    let p = c .before .before .before in
+    form-high (p .before .args .last) (p .before .args .due) (p .before .args .kind) (p .if1 .left) (c .before .before .if3 .left) (c .before .if4 .left) (c .if5 .left)
 
 pub form-of-spec : {M : Type 1} → statement M
 form-of-spec = tie.close (tie.spec returns returns-2 returns-3 returns-4 returns-5 returns-6)

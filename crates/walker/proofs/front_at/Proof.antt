@@ -33,7 +33,10 @@ get-little-requires-2 c κs = search needs
 
 returns-5 : tie.Need-returns-5
 unfolding limit
-returns-5 c = rw (c .get-little2 .ensures, c .before .before .before .get-little .ensures) (front-whole (c .before .before .before .before .before .before .before .args .records .now) (c .before .before .before .before .before .before .before .args .at) (omega arith) (omega arith))
+returns-5 c =
+    let p = c .before .before .before in
+    let a = p .before .before .before .before .args in
+    rw (c .get-little2 .ensures, p .get-little .ensures) (front-whole (a .records .now) (a .at) (omega arith) (omega arith))
 
 pub front-at-spec : {M : Type 1} → statement M
 front-at-spec =

@@ -22,7 +22,10 @@ enum-told : tie.Need-enum-told
 enum-told c = search needs
 
 sub-new : tie.Need-sub-new
-sub-new c = let w = c .before .before .before .before .args .w in argument-due (w .last) (w .due) (c .before .before .before .before .args .kind) (sym (c .before .before .form-of .ensures) ∙ c .enum-told .given .1)
+sub-new c =
+    let p = c .before .before .before .before in
+    let w = p .args .w in
+    argument-due (w .last) (w .due) (p .args .kind) (sym (c .before .before .form-of .ensures) ∙ c .enum-told .given .1)
 
 new-requires : tie.Need-new-requires
 new-requires c κs = search needs

@@ -23,7 +23,10 @@ enum-known-f : tie.Need-enum-known-f
 enum-known-f c = search needs
 
 placed-requires : tie.Need-placed-requires
-placed-requires c κs = whole-front (c .before .before .before .before .before .before .args .records .now) (c .before .before .before .before .before .before .args .w .at) _ _ (sym (c .before .before .before .front-at .ensures) ∙ c .before .f .given .1) .0
+placed-requires c κs =
+    let p = c .before .before .before in
+    let a = p .before .before .before .args in
+    whole-front (a .records .now) (a .w .at) _ _ (sym (p .front-at .ensures) ∙ c .before .f .given .1) .0
 
 enum-told : tie.Need-enum-told
 enum-told c = search needs

@@ -1,0 +1,14 @@
+-- `fields::Seen::with` meets its contract. Assumes nothing.
+use borrow.Author.Needs.{needs}
+use Rattle.fields.proofs.Bits.{one-shl}
+use Rattle.fields.proofs.Seen.with.Statement.{statement}
+use Rattle.fields.proofs.Seen.with.Tie as tie
+
+shl-result : tie.Need-shl-result
+shl-result c = search needs
+
+returns : tie.Need-returns
+returns c = rw (one-shl _ (c .pre))
+
+pub with-spec : {M : Type 1} → statement M
+with-spec = tie.close (tie.spec shl-result returns)
