@@ -47,3 +47,9 @@ pub record Listed (count : ℕ) (t : Tables) (row m : ℕ) : Type 0 where
 pub record Fielded (count : ℕ) (t : Tables) (entries : List ℕ) (f m : ℕ) : Type 0 where
   pub strings : (g k : ℕ) → f ≤ g → g < f + m → g ≤ 7 → getD entries g 0 ≡ suc k → Valued count t (getD (t .starts) k 0) (getD (t .ends) k 0)
   pub lists : (g k : ℕ) → f ≤ g → g < f + m → 7 < g → getD entries g 0 ≡ suc k → Listed count t (getD (t .starts) k 0) (getD (t .ends) k 0)
+
+-- where the fields' tokens and rows are, as the lines' reader leaves them: all are tokens, and the rows of a list's arguments stand below the tokens' count
+pub record Spans (count : ℕ) (t : Tables) (entries : List ℕ) : Type 0 where
+  pub strings : (f k : ℕ) → 1 ≤ f → f ≤ 7 → getD entries f 0 ≡ suc k → getD (t .ends) k 0 ≤ count
+  pub lists : (f k : ℕ) → 7 < f → f ≤ 10 → getD entries f 0 ≡ suc k → getD (t .starts) k 0 + getD (t .ends) k 0 ≤ 65536
+  pub rows : (f k i : ℕ) → 7 < f → f ≤ 10 → getD entries f 0 ≡ suc k → getD (t .starts) k 0 ≤ i → i < getD (t .starts) k 0 + getD (t .ends) k 0 → getD (t .ends) i 0 ≤ count
