@@ -80,9 +80,6 @@ module _ (text : List ℕ) (i kind from len next : ℕ) (h : i < length text) (s
   pub next-less : length text - next < length text - i
   next-less = omega arith
 
-  pub next-inside : next ≤ length text
-  next-inside = omega arith
-
   -- a piece that isn't Text is one lexeme
   is-lexeme : (kind ≡ 1 → ⊥) → lexemeAt text i ≡ shown text i kind from len next
   is-lexeme n = ⊎-elim (λ p. absurd (n (p .0 .is-text))) (λ x. x) (s .is-piece)

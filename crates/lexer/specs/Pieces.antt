@@ -17,12 +17,9 @@ use Rattle.scan.specs.Classes.{classNumber}
 abbrev pub lexemeAt : List ℕ → ℕ → Lexeme
 lexemeAt text i = lexeme (class (getD text i 0)) (getD text i 0) (drop (i + 1) text)
 
--- kinds above those of tokens: a reference that isn't closed, and one with a bad character, which stands at `from`
+-- kinds above those of tokens: a reference that isn't closed; any other is one with a bad character, which stands at `from`
 abbrev pub notClosed : ℕ
 notClosed = 10
-
-abbrev pub badCharacter : ℕ
-badCharacter = 11
 
 unfoldable pub errorShown : List ℕ → ℕ → ℕ → LexError
 errorShown text kind from = pick (eqb kind notClosed) MissingCloseVariable (InvalidVariableChar (codePoint (getD text from 0) (drop (from + 1) text)))

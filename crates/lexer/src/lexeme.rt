@@ -1,12 +1,14 @@
-// One lexeme at a place of the text (document 01, "Lexing").
+// One piece at a place of the text (document 01, "Lexing"), by a table of the classes of bytes.
 ghost use mathlib.Core.Path.{_≡_};
 ghost use Prim.Native.Nat.{_+_, _≤_, _<_};
 ghost use lib.ListN.{length, drop, getD};
 ghost use Rattle.rules.specs.Bytes.{run};
 ghost use Rattle.rules.specs.Lexing.{isIdentifier, comment, second, afterBackslash, afterBrace, afterDollar};
+ghost use Rattle.scan.specs.Classes.{ClassTable};
 ghost use Rattle.lexer.specs.Pieces.{Shows, lexemeAt, isPlain, Reads};
 use scan::class::ByteClass;
-use scan::class::class_at;
+use scan::class::CLASS;
+use scan::class::class_by;
 use tokens::TokenKind;
 
 // A piece of the text: its kind, its own text, which is the `len` bytes from `from` on, and where the next one starts.
@@ -26,25 +28,25 @@ impl Piece {
 }
 
 // Past the characters of a name.
-fn name_end(text: &[u8], i: usize) -> usize
-    requires { ⌜ i ≤ length (now text) ⌝ }
+fn name_end(table: &[u8; 256], text: &[u8], i: usize) -> usize
+    requires { ⌜ ClassTable (now table) × (i ≤ length (now text)) ⌝ }
     ensures { λ r. ⌜ r ≡ i + run isIdentifier (drop i (now (text .entry))) ⌝ }
 {
     let mut j = i;
-    while class_at(text, j) == ByteClass::IDENTIFIER {
+    while class_by(table, text, j) == ByteClass::IDENTIFIER {
         j += 1;
     }
     j
 }
 
 // At the next line end, or the end of the text.
-fn comment_end(text: &[u8], i: usize) -> usize
-    requires { ⌜ i ≤ length (now text) ⌝ }
+fn comment_end(table: &[u8; 256], text: &[u8], i: usize) -> usize
+    requires { ⌜ ClassTable (now table) × (i ≤ length (now text)) ⌝ }
     ensures { λ r. ⌜ r ≡ i + comment (drop i (now (text .entry))) ⌝ }
 {
     let mut j = i;
     while j < text.len() {
-        if class_at(text, j) == ByteClass::LINE_END {
+        if class_by(table, text, j) == ByteClass::LINE_END {
             return j;
         }
         j += 1;
@@ -53,11 +55,11 @@ fn comment_end(text: &[u8], i: usize) -> usize
 }
 
 // Past the line end at place i: LF CR and CR LF are one.
-fn maybe_consume_second_newline(text: &[u8], i: usize) -> usize
-    requires { ⌜ i < length (now text) ⌝ }
+fn maybe_consume_second_newline(table: &[u8; 256], text: &[u8], i: usize) -> usize
+    requires { ⌜ ClassTable (now table) × (i < length (now text)) ⌝ }
     ensures { λ r. ⌜ r ≡ i + 1 + second (getD (now (text .entry)) i 0) (drop (i + 1) (now (text .entry))) ⌝ }
 {
-    if class_at(text, i + 1) == ByteClass::LINE_END {
+    if class_by(table, text, i + 1) == ByteClass::LINE_END {
         if text[i] == text[i + 1] {
             return i + 1;
         }
@@ -67,11 +69,11 @@ fn maybe_consume_second_newline(text: &[u8], i: usize) -> usize
 }
 
 // Backslash before `#` is text `#`. Before a line end all vanish and Text goes on. Else it is a token.
-fn backslash_at(text: &[u8], i: usize) -> Piece
-    requires { ⌜ i < length (now text) ⌝ }
+fn backslash_at(table: &[u8; 256], text: &[u8], i: usize) -> Piece
+    requires { ⌜ ClassTable (now table) × (i < length (now text)) ⌝ }
     ensures { λ r. ⌜ Shows (now (text .entry)) i (afterBackslash (drop (i + 1) (now (text .entry)))) (r .kind) (r .from) (r .len) (r .next) ⌝ }
 {
-    let c = class_at(text, i + 1);
+    let c = class_by(table, text, i + 1);
     if c == ByteClass::HASH {
         return Piece {
             kind: TokenKind::TEXT,
@@ -81,7 +83,7 @@ fn backslash_at(text: &[u8], i: usize) -> Piece
         };
     }
     if c == ByteClass::LINE_END {
-        let next = maybe_consume_second_newline(text, i + 1);
+        let next = maybe_consume_second_newline(table, text, i + 1);
         return Piece {
             kind: TokenKind::TEXT,
             from: i,
@@ -98,12 +100,12 @@ fn backslash_at(text: &[u8], i: usize) -> Piece
 }
 
 // `${` at place i opens a reference, up to `}`.
-fn reference_at(text: &[u8], i: usize) -> Piece
-    requires { ⌜ i + 2 ≤ length (now text) ⌝ }
+fn reference_at(table: &[u8; 256], text: &[u8], i: usize) -> Piece
+    requires { ⌜ ClassTable (now table) × (i + 2 ≤ length (now text)) ⌝ }
     ensures { λ r. ⌜ Shows (now (text .entry)) i (afterBrace (drop (i + 2) (now (text .entry)))) (r .kind) (r .from) (r .len) (r .next) ⌝ }
 {
-    let end = name_end(text, i + 2);
-    let closing = class_at(text, end);
+    let end = name_end(table, text, i + 2);
+    let closing = class_by(table, text, end);
     if closing == ByteClass::CLOSE_BRACE {
         return Piece {
             kind: TokenKind::VARIABLE,
@@ -129,13 +131,13 @@ fn reference_at(text: &[u8], i: usize) -> Piece
 }
 
 // `$$` is text `$`. `$` before anything else but `{` puts both into Text. `$` at the end is text `$`.
-fn dollar_at(text: &[u8], i: usize) -> Piece
-    requires { ⌜ i < length (now text) ⌝ }
+fn dollar_at(table: &[u8; 256], text: &[u8], i: usize) -> Piece
+    requires { ⌜ ClassTable (now table) × (i < length (now text)) ⌝ }
     ensures { λ r. ⌜ Shows (now (text .entry)) i (afterDollar (getD (now (text .entry)) i 0) (drop (i + 1) (now (text .entry)))) (r .kind) (r .from) (r .len) (r .next) ⌝ }
 {
-    let c = class_at(text, i + 1);
+    let c = class_by(table, text, i + 1);
     if c == ByteClass::OPEN_BRACE {
-        return reference_at(text, i);
+        return reference_at(table, text, i);
     }
     if c == ByteClass::DOLLAR {
         return Piece {
@@ -162,11 +164,11 @@ fn dollar_at(text: &[u8], i: usize) -> Piece
 }
 
 // The lexeme at place i, by the class of its first byte. The classes from BLANK up to DOUBLE are the kinds of their tokens.
-pub fn lexeme_at(text: &[u8], i: usize) -> Piece
-    requires { ⌜ i < length (now text) ⌝ }
+pub fn lexeme_at(table: &[u8; 256], text: &[u8], i: usize) -> Piece
+    requires { ⌜ ClassTable (now table) × (i < length (now text)) ⌝ }
     ensures { λ r. ⌜ Shows (now (text .entry)) i (lexemeAt (now (text .entry)) i) (r .kind) (r .from) (r .len) (r .next) ⌝ }
 {
-    let first = class_at(text, i);
+    let first = class_by(table, text, i);
     if first < ByteClass::BLANK {
         return Piece {
             kind: TokenKind::TEXT,
@@ -184,10 +186,10 @@ pub fn lexeme_at(text: &[u8], i: usize) -> Piece
         };
     }
     if first == ByteClass::BACKSLASH {
-        return backslash_at(text, i);
+        return backslash_at(table, text, i);
     }
     if first == ByteClass::LINE_END {
-        let next = maybe_consume_second_newline(text, i);
+        let next = maybe_consume_second_newline(table, text, i);
         return Piece {
             kind: TokenKind::NEW_LINE,
             from: i,
@@ -196,10 +198,10 @@ pub fn lexeme_at(text: &[u8], i: usize) -> Piece
         };
     }
     if first == ByteClass::DOLLAR {
-        return dollar_at(text, i);
+        return dollar_at(table, text, i);
     }
     if first == ByteClass::HASH {
-        let next = comment_end(text, i + 1);
+        let next = comment_end(table, text, i + 1);
         return Piece {
             kind: TokenKind::TEXT,
             from: i,
@@ -216,23 +218,23 @@ pub fn lexeme_at(text: &[u8], i: usize) -> Piece
 }
 
 // Past the bytes that are text by themselves.
-fn text_end(text: &[u8], i: usize) -> usize
-    requires { ⌜ i ≤ length (now text) ⌝ }
+fn text_end(table: &[u8; 256], text: &[u8], i: usize) -> usize
+    requires { ⌜ ClassTable (now table) × (i ≤ length (now text)) ⌝ }
     ensures { λ r. ⌜ r ≡ i + run isPlain (drop i (now (text .entry))) ⌝ }
 {
     let mut j = i;
-    while class_at(text, j) < ByteClass::BLANK {
+    while class_by(table, text, j) < ByteClass::BLANK {
         j += 1;
     }
     j
 }
 
 // All the bytes from place i on that are text by themselves, or else one lexeme.
-pub fn piece_at(text: &[u8], i: usize) -> Piece
-    requires { ⌜ i < length (now text) ⌝ }
+pub fn piece_at(table: &[u8; 256], text: &[u8], i: usize) -> Piece
+    requires { ⌜ ClassTable (now table) × (i < length (now text)) ⌝ }
     ensures { λ r. ⌜ Reads (now (text .entry)) i (r .kind) (r .from) (r .len) (r .next) ⌝ }
 {
-    let end = text_end(text, i);
+    let end = text_end(table, text, i);
     if i < end {
         return Piece {
             kind: TokenKind::TEXT,
@@ -241,5 +243,14 @@ pub fn piece_at(text: &[u8], i: usize) -> Piece
             next: end,
         };
     }
-    lexeme_at(text, i)
+    lexeme_at(table, text, i)
+}
+
+// The lexeme at place i, with a table of its own.
+pub fn one_lexeme_at(text: &[u8], i: usize) -> Piece
+    requires { ⌜ i < length (now text) ⌝ }
+    ensures { λ r. ⌜ Shows (now (text .entry)) i (lexemeAt (now (text .entry)) i) (r .kind) (r .from) (r .len) (r .next) ⌝ }
+{
+    let table = CLASS;
+    lexeme_at(&table, text, i)
 }

@@ -6,6 +6,7 @@ ghost use Prim.Native.Nat.{_+_, _*_};
 ghost use lib.ListN.{length};
 ghost use lib.Dec.{eqb};
 ghost use Rattle.rules.specs.Bytes.{pick};
+ghost use Rattle.scan.specs.Classes.{ClassTable};
 ghost use Rattle.scan.specs.Stores.{puts};
 ghost use Rattle.tokens.specs.Entries.{entry, poolText};
 ghost use Rattle.lexer.specs.Lexes.{Room, Holds, Lexes, errorOf};
@@ -13,6 +14,7 @@ ghost use Rattle.lexer.specs.Pieces.{errorShown};
 ghost use Rattle.lexer.specs.Inner.{Judges, Fillable, flushed, flushedCount, FlushRoom, made, PutRoom};
 use lexeme::Piece;
 use lexeme::piece_at;
+use scan::class::CLASS;
 use scan::store::copy_part;
 use scan::store::put4;
 use tokens::TokenKind;
@@ -25,6 +27,7 @@ pub enum LexError {
     InvalidVariableChar(u32),
 }
 
+// What lexing answers.
 pub enum Lexed {
     // the number of tokens, and of bytes in the pool
     Tokens(usize, usize),
@@ -32,8 +35,10 @@ pub enum Lexed {
     Refused(LexError, usize),
 }
 
+// What the first pass finds.
 pub enum Verdict {
     Fine,
+    // the first refusal, with the place of the `$`
     Bad(LexError, usize),
 }
 
@@ -48,12 +53,14 @@ fn error_at(text: &[u8], kind: u32, from: usize) -> LexError
     LexError::InvalidVariableChar(c)
 }
 
-fn find_refusal(text: &[u8]) -> Verdict
+// The first pass.
+fn find_refusal(table: &[u8; 256], text: &[u8]) -> Verdict
+    requires { ⌜ ClassTable (now table) ⌝ }
     ensures { λ r. ⌜ Judges (now (text .entry)) r ⌝ }
 {
     let mut i = 0;
     while i < text.len() {
-        let p = piece_at(text, i);
+        let p = piece_at(table, text, i);
         let kind = p.kind;
         if TokenKind::NEW_LINE < kind {
             let from = p.from;
@@ -118,14 +125,15 @@ fn put_token(
     used
 }
 
+// How many tokens the workspace holds, and how many bytes of text the pool.
 pub struct Filled {
     pub count: usize,
     pub used: usize,
 }
 
-// The tokens of a text that isn't refused.
-fn fill(text: &[u8], ws: &mut [u32], pool: &mut [u8]) -> Filled
-    requires { ⌜ Fillable (now text) (now ws) (now pool) ⌝ }
+// The second pass: the tokens of a text that isn't refused.
+fn fill(table: &[u8; 256], text: &[u8], ws: &mut [u32], pool: &mut [u8]) -> Filled
+    requires { ⌜ ClassTable (now table) × Fillable (now text) (now ws) (now pool) ⌝ }
     ensures { λ r. ⌜ Holds (now (text .entry)) (now (ws .entry)) (now (ws .exit)) (now (pool .entry)) (now (pool .exit)) (r .count) (r .used) ⌝ }
 {
     let mut i = 0;
@@ -134,7 +142,7 @@ fn fill(text: &[u8], ws: &mut [u32], pool: &mut [u8]) -> Filled
     let mut used = 0;
     let mut source = 0;
     while i < text.len() {
-        let p = piece_at(text, i);
+        let p = piece_at(table, text, i);
         let kind = p.kind;
         let from = p.from;
         let len = p.len;
@@ -155,19 +163,28 @@ fn fill(text: &[u8], ws: &mut [u32], pool: &mut [u8]) -> Filled
     Filled { count, used }
 }
 
-// The whole text. Nothing is written where it is refused.
-pub fn lex(text: &[u8], ws: &mut [u32], pool: &mut [u8]) -> Lexed
-    requires { ⌜ Room (now text) (now ws) (now pool) ⌝ }
+// Both passes, by a table of the classes of bytes.
+fn lex_by(table: &[u8; 256], text: &[u8], ws: &mut [u32], pool: &mut [u8]) -> Lexed
+    requires { ⌜ ClassTable (now table) × Room (now text) (now ws) (now pool) ⌝ }
     ensures { λ r. ⌜ Lexes (now (text .entry)) (now (ws .entry)) (now (ws .exit)) (now (pool .entry)) (now (pool .exit)) r ⌝ }
 {
-    let v = find_refusal(text);
+    let v = find_refusal(table, text);
     match v {
         Verdict::Bad(e, at) => Lexed::Refused(e, at),
         Verdict::Fine => {
-            let f = fill(text, ws, pool);
+            let f = fill(table, text, ws, pool);
             let count = f.count;
             let used = f.used;
             Lexed::Tokens(count, used)
         }
     }
+}
+
+// The whole text. Nothing is written where it is refused. The table is made once, and lent.
+pub fn lex(text: &[u8], ws: &mut [u32], pool: &mut [u8]) -> Lexed
+    requires { ⌜ Room (now text) (now ws) (now pool) ⌝ }
+    ensures { λ r. ⌜ Lexes (now (text .entry)) (now (ws .entry)) (now (ws .exit)) (now (pool .entry)) (now (pool .exit)) r ⌝ }
+{
+    let table = CLASS;
+    lex_by(&table, text, ws, pool)
 }

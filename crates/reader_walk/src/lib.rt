@@ -2,7 +2,7 @@
 // A caller with plain parameters calls `first` or the covered functions, and needs no walk.
 ghost use mathlib.Core.Path.{_≡_};
 ghost use Rattle.reader_walk.specs.Steps.{stepAt, endAt};
-use lexer::lexeme::lexeme_at;
+use lexer::lexeme::one_lexeme_at;
 use tokens::TokenKind;
 
 pub struct Reader<'a> {
@@ -25,7 +25,7 @@ pub fn step_at(s: &[u8], at: usize) -> Step
     if s.len() <= at {
         return Step::End;
     }
-    let p = lexeme_at(s, at);
+    let p = one_lexeme_at(s, at);
     let kind = p.kind;
     let next = p.next;
     if TokenKind::NEW_LINE < kind {

@@ -10,7 +10,7 @@ use lib.Seq.{drop-cons}
 use borrow.Author.Tests.{ltb-true, ltb-false, eq-eqb, ne-eqb, le-leb, lt-leb}
 use Rattle.rules.specs.Bytes.{is, within, pick}
 use Rattle.rules.specs.Lexing.{Class, class, other, identifier, blank, lineEnd, hash, dollar, openBrace, closeBrace, backslash, equals, colon, single, double, isIdentifier, isLineEnd}
-use Rattle.scan.specs.Classes.{classNumber, classAt, past}
+use Rattle.scan.specs.Classes.{classNumber, classAt, past, ClassTable}
 use Rattle.scan.proofs.Table.{every, both, both-left, both-right, at}
 
 -- the class of a number, so that a number tells its class
@@ -248,3 +248,7 @@ not-past text i n = go (ltb i (length text)) refl
     go : (t : Bool) → ltb i (length text) ≡ t → i < length text
     go true f = ltb-true i (length text) f
     go false f = absurd (n (class-past text i (ltb-false i (length text) f)))
+
+-- the constant table is such a table
+pub is-table : ClassTable table
+is-table = record { right = entry }

@@ -1,6 +1,8 @@
 -- The numbers of the classes of bytes (document 01, "Lexing"): 3 to 9 are the kinds of the tokens that such a byte makes. Assumes nothing.
-use Prim.Native.Nat.{ℕ}
+use Prim.Native.Nat.{ℕ, _<_}
+use mathlib.Core.Path.{_≡_}
 use mathlib.Core.List.{List, [], _∷_}
+use lib.ListN.{getD}
 use Rattle.rules.specs.Lexing.{Class, class, other, identifier, blank, lineEnd, hash, dollar, openBrace, closeBrace, backslash, equals, colon, single, double}
 
 unfoldable pub classNumber : Class → ℕ
@@ -26,3 +28,7 @@ past = 15
 unfoldable pub classAt : List ℕ → ℕ
 classAt [] = past
 classAt (b ∷ bs) = classNumber (class b)
+
+-- a table of the classes of all bytes
+pub record ClassTable (table : List ℕ) : Type 0 where
+  pub right : (b : ℕ) → b < 256 → getD table b 0 ≡ classNumber (class b)

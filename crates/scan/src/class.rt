@@ -2,7 +2,7 @@
 ghost use mathlib.Core.Path.{_≡_};
 ghost use lib.ListN.{drop};
 ghost use Rattle.rules.specs.Lexing.{class, isIdentifier};
-ghost use Rattle.scan.specs.Classes.{classNumber, classAt};
+ghost use Rattle.scan.specs.Classes.{classNumber, classAt, ClassTable};
 
 // The numbers of the classes. 3 to 9 are the kinds of the tokens that such a byte makes.
 pub struct ByteClass;
@@ -332,6 +332,26 @@ pub fn class_at(text: &[u8], i: usize) -> u8
 {
     if i < text.len() {
         class_of(text[i])
+    } else {
+        ByteClass::PAST
+    }
+}
+
+// The class of a byte by a table that is lent: a constant array is made anew wherever it is named, so a loop is lent one.
+pub fn class_in(table: &[u8; 256], b: u8) -> u8
+    requires { ⌜ ClassTable (now table) ⌝ }
+    ensures { λ r. ⌜ r ≡ classNumber (class b) ⌝ }
+{
+    table[b as usize]
+}
+
+// As `class_at`, by such a table.
+pub fn class_by(table: &[u8; 256], text: &[u8], i: usize) -> u8
+    requires { ⌜ ClassTable (now table) ⌝ }
+    ensures { λ r. ⌜ r ≡ classAt (drop i (now (text .entry))) ⌝ }
+{
+    if i < text.len() {
+        class_in(table, text[i])
     } else {
         ByteClass::PAST
     }

@@ -8,10 +8,10 @@ use Rattle.lexer.proofs.fill.Statement.{statement}
 use Rattle.lexer.proofs.fill.Tie as tie
 
 abbrev Inv-loop : tie.InvT-loop
-Inv-loop text ws₀ pool₀ i₀ count₀ start₀ used₀ source₀ ws pool i count start used source = Filling text ws₀ pool₀ ws pool i count start used source
+Inv-loop table text ws₀ pool₀ i₀ count₀ start₀ used₀ source₀ ws pool i count start used source = Filling text ws₀ pool₀ ws pool i count start used source
 
 abbrev μ-loop : tie.MeasureT-loop
-μ-loop text ws₀ pool₀ i₀ count₀ start₀ used₀ source₀ ws pool i count start used source = length text - i
+μ-loop table text ws₀ pool₀ i₀ count₀ start₀ used₀ source₀ ws pool i count start used source = length text - i
 
 loop-holds : tie.Need-loop-holds Inv-loop μ-loop
 loop-holds c = search fill-start

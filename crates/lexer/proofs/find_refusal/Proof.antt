@@ -7,10 +7,10 @@ use Rattle.lexer.proofs.find_refusal.Statement.{statement}
 use Rattle.lexer.proofs.find_refusal.Tie as tie
 
 abbrev Inv-loop : tie.InvT-loop
-Inv-loop text i₀ i = Left text i
+Inv-loop table text i₀ i = Left text i
 
 abbrev μ-loop : tie.MeasureT-loop
-μ-loop text i₀ i = length text - i
+μ-loop table text i₀ i = length text - i
 
 loop-holds : tie.Need-loop-holds Inv-loop μ-loop
 loop-holds c = search left-start

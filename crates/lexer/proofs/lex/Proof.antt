@@ -1,23 +1,11 @@
 -- `lexer::lex` meets its contract. Assumes nothing.
-use Rattle.lexer.proofs.Fills.{lex-refused, fillable}
+use Rattle.scan.proofs.Classes.{is-table}
 use borrow.Author.Needs.{needs}
 use Rattle.lexer.proofs.lex.Statement.{statement}
 use Rattle.lexer.proofs.lex.Tie as tie
 
-find-refusal-requires : tie.Need-find-refusal-requires
-find-refusal-requires c κs = search needs
-
-enum-known-v : tie.Need-enum-known-v
-enum-known-v c = search needs
-
-enum-told : tie.Need-enum-told
-enum-told c = search needs
-
-fill-requires : tie.Need-fill-requires
-fill-requires c κs = search fillable
-
-returns : tie.Need-returns
-returns c = search lex-refused
+lex-by-requires : tie.Need-lex-by-requires
+lex-by-requires c κs = (is-table, search needs)
 
 same-length : tie.Need-same-length
 same-length c = search needs
@@ -25,18 +13,8 @@ same-length c = search needs
 same-length-2 : tie.Need-same-length-2
 same-length-2 c = search needs
 
-returns-2 : tie.Need-returns-2
-returns-2 c = search needs
+returns : tie.Need-returns
+returns c = search needs
 
 pub lex-spec : {M : Type 1} → statement M
-lex-spec =
-    tie.close
-    (tie.spec
-    find-refusal-requires
-    enum-known-v
-    enum-told
-    fill-requires
-    returns
-    same-length
-    same-length-2
-    returns-2)
+lex-spec = tie.close (tie.spec lex-by-requires same-length same-length-2 returns)

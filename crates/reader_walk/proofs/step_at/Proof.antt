@@ -7,8 +7,8 @@ use Rattle.reader_walk.proofs.step_at.Tie as tie
 returns : tie.Need-returns
 returns c = search step-end
 
-lexeme-at-requires : tie.Need-lexeme-at-requires
-lexeme-at-requires c κs = search needs
+one-lexeme-at-requires : tie.Need-one-lexeme-at-requires
+one-lexeme-at-requires c κs = search needs
 
 returns-2 : tie.Need-returns-2
 returns-2 c = search step-bad
@@ -17,4 +17,4 @@ returns-3 : tie.Need-returns-3
 returns-3 c = search step-lexeme
 
 pub step-at-spec : {M : Type 1} → statement M
-step-at-spec = tie.close (tie.spec returns lexeme-at-requires returns-2 returns-3)
+step-at-spec = tie.close (tie.spec returns one-lexeme-at-requires returns-2 returns-3)

@@ -10,16 +10,16 @@ use Rattle.lexer.proofs.lexeme.comment_end.Statement.{statement}
 use Rattle.lexer.proofs.lexeme.comment_end.Tie as tie
 
 abbrev Inv-loop : tie.InvT-loop
-Inv-loop text i j₀ j = (j ≤ length text) × (i + comment (drop i text) ≡ j + comment (drop j text))
+Inv-loop table text i j₀ j = (j ≤ length text) × (i + comment (drop i text) ≡ j + comment (drop j text))
 
 abbrev μ-loop : tie.MeasureT-loop
-μ-loop text i j₀ j = length text - j
+μ-loop table text i j₀ j = length text - j
 
 loop-holds : tie.Need-loop-holds Inv-loop μ-loop
 loop-holds c = (search needs, refl)
 
-class-at-requires : tie.Need-class-at-requires Inv-loop μ-loop
-class-at-requires c κs = search needs
+class-by-requires : tie.Need-class-by-requires Inv-loop μ-loop
+class-by-requires c κs = search needs
 
 returns : tie.Need-returns Inv-loop μ-loop
 returns c = search line-stop
@@ -43,7 +43,7 @@ comment-end-spec =
     Inv-loop
     μ-loop
     loop-holds
-    class-at-requires
+    class-by-requires
     returns
     add-j
     loop-less

@@ -4,20 +4,20 @@ use borrow.Author.Needs.{needs}
 use Rattle.lexer.proofs.lexeme.lexeme_at.Statement.{statement}
 use Rattle.lexer.proofs.lexeme.lexeme_at.Tie as tie
 
-class-at-requires : tie.Need-class-at-requires
-class-at-requires c κs = search needs
+class-by-requires : tie.Need-class-by-requires
+class-by-requires c κs = search needs
 
-add-t7 : tie.Need-add-t7
-add-t7 c = search needs
+add-t8 : tie.Need-add-t8
+add-t8 c = search needs
 
 returns : tie.Need-returns
 returns c = search lexeme-text
 
-cast-t8 : tie.Need-cast-t8
-cast-t8 c = search needs
+cast-t9 : tie.Need-cast-t9
+cast-t9 c = search needs
 
-add-t9 : tie.Need-add-t9
-add-t9 c = search needs
+add-t10 : tie.Need-add-t10
+add-t10 c = search needs
 
 returns-2 : tie.Need-returns-2
 returns-2 c = search lexeme-sign
@@ -49,8 +49,8 @@ comment-end-requires c κs = search needs
 returns-6 : tie.Need-returns-6
 returns-6 c = search lexeme-comment
 
-add-t11 : tie.Need-add-t11
-add-t11 c = search needs
+add-t12 : tie.Need-add-t12
+add-t12 c = search needs
 
 returns-7 : tie.Need-returns-7
 returns-7 c = search lexeme-brace
@@ -59,11 +59,11 @@ pub lexeme-at-spec : {M : Type 1} → statement M
 lexeme-at-spec =
     tie.close
     (tie.spec
-    class-at-requires
-    add-t7
+    class-by-requires
+    add-t8
     returns
-    cast-t8
-    add-t9
+    cast-t9
+    add-t10
     returns-2
     backslash-at-requires
     returns-3
@@ -74,5 +74,5 @@ lexeme-at-spec =
     add-comment-end
     comment-end-requires
     returns-6
-    add-t11
+    add-t12
     returns-7)

@@ -4,11 +4,11 @@ use borrow.Author.Needs.{needs}
 use Rattle.lexer.proofs.lexeme.maybe_consume_second_newline.Statement.{statement}
 use Rattle.lexer.proofs.lexeme.maybe_consume_second_newline.Tie as tie
 
-add-class-at : tie.Need-add-class-at
-add-class-at c = search needs
+add-class-by : tie.Need-add-class-by
+add-class-by c = search needs
 
-class-at-requires : tie.Need-class-at-requires
-class-at-requires c κs = search needs
+class-by-requires : tie.Need-class-by-requires
+class-by-requires c κs = search needs
 
 shared-slice-read-if2 : tie.Need-shared-slice-read-if2
 shared-slice-read-if2 c = search needs
@@ -41,8 +41,8 @@ pub maybe-consume-second-newline-spec : {M : Type 1} → statement M
 maybe-consume-second-newline-spec =
     tie.close
     (tie.spec
-    add-class-at
-    class-at-requires
+    add-class-by
+    class-by-requires
     shared-slice-read-if2
     add-if2
     shared-slice-read-if2-2

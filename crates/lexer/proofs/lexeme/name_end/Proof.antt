@@ -11,16 +11,16 @@ use Rattle.lexer.proofs.lexeme.name_end.Statement.{statement}
 use Rattle.lexer.proofs.lexeme.name_end.Tie as tie
 
 abbrev Inv-loop : tie.InvT-loop
-Inv-loop text i j₀ j = (j ≤ length text) × (i + run isIdentifier (drop i text) ≡ j + run isIdentifier (drop j text))
+Inv-loop table text i j₀ j = (j ≤ length text) × (i + run isIdentifier (drop i text) ≡ j + run isIdentifier (drop j text))
 
 abbrev μ-loop : tie.MeasureT-loop
-μ-loop text i j₀ j = length text - j
+μ-loop table text i j₀ j = length text - j
 
 loop-holds : tie.Need-loop-holds Inv-loop μ-loop
 loop-holds c = (search needs, refl)
 
-class-at-requires : tie.Need-class-at-requires Inv-loop μ-loop
-class-at-requires c κs = search needs
+class-by-requires : tie.Need-class-by-requires Inv-loop μ-loop
+class-by-requires c κs = search needs
 
 add-j : tie.Need-add-j Inv-loop μ-loop
 add-j c = let h : c .before .before .loop .j < length (c .before .before .before .before .args .text .now) = search name-in in omega arith
@@ -37,4 +37,4 @@ returns c = search name-stop
 pub name-end-spec : {M : Type 1} → statement M
 name-end-spec =
     tie.close
-    (tie.spec Inv-loop μ-loop loop-holds class-at-requires add-j loop-less loop-again returns)
+    (tie.spec Inv-loop μ-loop loop-holds class-by-requires add-j loop-less loop-again returns)

@@ -7,8 +7,8 @@ use Rattle.lexer.proofs.lexeme.piece_at.Tie as tie
 text-end-requires : tie.Need-text-end-requires
 text-end-requires c κs = search needs
 
-sub-t5 : tie.Need-sub-t5
-sub-t5 c = search needs
+sub-t6 : tie.Need-sub-t6
+sub-t6 c = search needs
 
 returns : tie.Need-returns
 returns c = search reads-run
@@ -20,4 +20,4 @@ returns-2 : tie.Need-returns-2
 returns-2 c = search reads-one
 
 pub piece-at-spec : {M : Type 1} → statement M
-piece-at-spec = tie.close (tie.spec text-end-requires sub-t5 returns lexeme-at-requires returns-2)
+piece-at-spec = tie.close (tie.spec text-end-requires sub-t6 returns lexeme-at-requires returns-2)

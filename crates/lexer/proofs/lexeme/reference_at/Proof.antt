@@ -13,20 +13,20 @@ add-name-end c = search needs
 name-end-requires : tie.Need-name-end-requires
 name-end-requires c κs = search needs
 
-class-at-requires : tie.Need-class-at-requires
-class-at-requires c κs = search needs
-
-add-t7 : tie.Need-add-t7
-add-t7 c = search needs
+class-by-requires : tie.Need-class-by-requires
+class-by-requires c κs = search needs
 
 add-t8 : tie.Need-add-t8
 add-t8 c = search needs
 
-sub-t9 : tie.Need-sub-t9
-sub-t9 c = search needs
+add-t9 : tie.Need-add-t9
+add-t9 c = search needs
 
-add-t10 : tie.Need-add-t10
-add-t10 c = let h : c .before .before .name-end .result ≤ length (c .before .before .before .before .args .text .now) = search name-inside in omega arith
+sub-t10 : tie.Need-sub-t10
+sub-t10 c = search needs
+
+add-t11 : tie.Need-add-t11
+add-t11 c = let h : c .before .before .name-end .result ≤ length (c .before .before .before .before .args .text .now) = search name-inside in omega arith
 
 returns : tie.Need-returns
 returns c = search reference-closed
@@ -43,11 +43,11 @@ reference-at-spec =
     (tie.spec
     add-name-end
     name-end-requires
-    class-at-requires
-    add-t7
+    class-by-requires
     add-t8
-    sub-t9
-    add-t10
+    add-t9
+    sub-t10
+    add-t11
     returns
     returns-2
     returns-3)

@@ -1,0 +1,4 @@
+pub mod Measures
+pub mod Lists
+pub mod Fieldings
+pub mod Meanings

@@ -1,0 +1,3 @@
+pub mod Contents
+pub mod Measuring
+pub mod Recording
