@@ -46,6 +46,16 @@ bare-tells k a e d = record {
   is-second = subst (λ (x : Rules.Detail). Names noNameOf (x .second)) (sym d) no-names;
 }
 
+-- what the output and the answer are turns on the output alone
+pub same-answer : (x : Result (List ℕ)) (c d : Buffers) → c .output ≡ d .output → (written x c .answer ≡ written x d .answer) × (written x c .after .output ≡ written x d .after .output)
+unfolding written
+same-answer (refused r) c d e = (refl, e)
+same-answer (ok rs) c d e = go (ltb (length (d .output)) (length rs)) refl
+  where
+    go : (t : Bool) → ltb (length (d .output)) (length rs) ≡ t → (written (ok rs) c .answer ≡ written (ok rs) d .answer) × (written (ok rs) c .after .output ≡ written (ok rs) d .after .output)
+    go true q = let z : ltb (length (c .output)) (length rs) ≡ true = ap (λ (o : List ℕ). ltb (length o) (length rs)) e ∙ q in rw (z, q, written) (refl, e)
+    go false q = let z : ltb (length (c .output)) (length rs) ≡ false = ap (λ (o : List ℕ). ltb (length o) (length rs)) e ∙ q in rw (z, q, written) (refl, ap (overwrite rs) e)
+
 module _ (text ws pool out : List ℕ) where
   -- all as it was
   as-found : (r : Answer) (k : Number) (a : Rules.Answer) → Reader.read text (lent ws pool out) ≡ untouched a (lent ws pool out) → r ≡ bareOf k → numberOf k ≡ number a → detail a ≡ noDetail
@@ -74,16 +84,6 @@ module _ (text ws pool out : List ℕ) where
       → r ≡ bareOf N.NotUtf8 → Reads text ws pool out ws pool out r
   unfolding number detail room
   not-utf8 r u s w p e f q = as-found r N.NotUtf8 Rules.NotUtf8 (read-utf8 text (lent ws pool out) s w p (sym e ∙ f)) q refl refl
-
-  -- what the output and the answer are turns on the output alone
-  same-answer : (x : Result (List ℕ)) (c d : Buffers) → c .output ≡ d .output → (written x c .answer ≡ written x d .answer) × (written x c .after .output ≡ written x d .after .output)
-  unfolding written
-  same-answer (refused r) c d e = (refl, e)
-  same-answer (ok rs) c d e = go (ltb (length (d .output)) (length rs)) refl
-    where
-      go : (t : Bool) → ltb (length (d .output)) (length rs) ≡ t → (written (ok rs) c .answer ≡ written (ok rs) d .answer) × (written (ok rs) c .after .output ≡ written (ok rs) d .after .output)
-      go true q = let z : ltb (length (c .output)) (length rs) ≡ true = ap (λ (o : List ℕ). ltb (length o) (length rs)) e ∙ q in rw (z, q, written) (refl, e)
-      go false q = let z : ltb (length (c .output)) (length rs) ≡ false = ap (λ (o : List ℕ). ltb (length o) (length rs)) e ∙ q in rw (z, q, written) (refl, ap (overwrite rs) e)
 
   kept : (x : Result (List ℕ)) (c : Buffers) → (written x c .after .workspace ≡ c .workspace) × (written x c .after .pool ≡ c .pool)
   unfolding written

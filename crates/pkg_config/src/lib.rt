@@ -1,4 +1,6 @@
 // The reader (document 01, "Buffers" and "Numbers returned"; upstream's types.rs and lib.rs): one call on lent buffers.
+mod file;
+
 ghost use mathlib.Core.Path.{_≡_};
 ghost use Prim.Native.Nat.{_+_, _*_, _≤_};
 ghost use lib.ListN.{length};
