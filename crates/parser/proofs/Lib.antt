@@ -1,0 +1,5 @@
+pub mod Answering
+pub mod Frames
+pub mod Lines
+pub mod Assigning
+pub mod Giving
