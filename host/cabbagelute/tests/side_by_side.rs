@@ -1,7 +1,8 @@
 //! This crate and upstream's on the same texts and the same directories.
 
-use cabbagelute::{DiscoverError, LexError, ParseError, PkgConfig, PkgConfigEnv, discover};
+use cabbagelute::{DiscoverError, LexError, ParseError, PkgConfig, PkgConfigEnv, discover, raw};
 use oracle::generators::{GENERATORS, Scale};
+use oracle::{Answer, Records};
 use std::error::Error;
 use std::path::{Path, PathBuf};
 
@@ -75,6 +76,37 @@ fn errors_are_errors_with_upstream_s_conversion() {
     let error: Box<dyn Error + Send + Sync> = Box::new(ParseError::from(LexError::InvalidVariableChar('é')));
     assert_eq!(error.to_string(), "invalid char in variable name: é");
     assert!(error.source().is_none());
+}
+
+/// The numbers, details and records themselves, with and without a lent workspace.
+#[test]
+fn the_raw_calls_say_what_the_oracle_says() {
+    for case in oracle::document::CASES {
+        let text = case.text.as_bytes();
+        let mut pool = vec![0; text.len()];
+        let mut output = vec![0; 4_096];
+        let mut workspace = vec![0; raw::workspace_entries(text.len())];
+        let own = raw::outcome(text, &mut pool, &mut output);
+        let lent = raw::outcome_in(text, &mut workspace, &mut pool, &mut output);
+        assert_eq!(own, lent);
+        match oracle::answer(text) {
+            Answer::Accepted(Records::Exact(records)) => {
+                let written = &output[..records.len()];
+                assert_eq!((lent.number, lent.detail.value), (0, records.len() as u64));
+                assert_eq!(written, records);
+                let mut walk = raw::records(written);
+                let walked: usize = walk.by_ref().map(|record| 6 + record.payload.len()).sum();
+                assert!(walked == records.len() && walk.rest().is_empty());
+            }
+            Answer::Accepted(Records::Long(_)) => panic!("no case of the document is so long"),
+            Answer::Refused(refusal) => {
+                assert_eq!(lent.number, u32::from(refusal.number));
+                assert_eq!(lent.detail.value, u64::from(refusal.value));
+                assert_eq!(lent.detail.first.of(&pool), Some(refusal.first.as_slice()));
+                assert_eq!(lent.detail.second.of(&pool), Some(refusal.second.as_slice()));
+            }
+        }
+    }
 }
 
 /// A directory that is gone after the test.
@@ -176,4 +208,51 @@ fn the_other_errors_have_upstream_s_texts() {
     for (here, upstream) in pairs {
         assert_eq!(here, upstream);
     }
+}
+
+/// Shows what both crates take from the environment.
+#[test]
+#[ignore = "the next test runs it, with environments of its own"]
+fn environment() {
+    let here = PkgConfigEnv::from_env();
+    let upstream = cuddld_pkg_config::PkgConfigEnv::from_env();
+    let here = shown(here.map(|env| [env.pkg_config_path, env.pkg_config_path_for_target]));
+    let upstream = shown(upstream.map(|env| [env.pkg_config_path, env.pkg_config_path_for_target]));
+    assert_eq!(here, upstream);
+    println!("<{here}>");
+}
+
+#[cfg(unix)]
+#[test]
+fn the_environment_is_read_alike() {
+    use std::ffi::OsStr;
+    use std::os::unix::ffi::OsStrExt;
+    let in_environment = |path: Option<&[u8]>, for_target: Option<&[u8]>| {
+        let this = std::env::current_exe().unwrap();
+        // On an Arm machine the tests run under an emulator: see setup-x86-64.
+        let mut child = match std::env::var_os("CARGO_TARGET_X86_64_UNKNOWN_LINUX_GNU_RUNNER") {
+            Some(runner) => {
+                let mut child = std::process::Command::new(runner);
+                child.arg(this);
+                child
+            }
+            None => std::process::Command::new(this),
+        };
+        child.args(["--ignored", "--exact", "environment", "--nocapture"]);
+        for (name, value) in [("PKG_CONFIG_PATH", path), ("PKG_CONFIG_PATH_FOR_TARGET", for_target)] {
+            match value {
+                Some(value) => child.env(name, OsStr::from_bytes(value)),
+                None => child.env_remove(name),
+            };
+        }
+        let output = child.output().unwrap();
+        let said = String::from_utf8(output.stdout).unwrap();
+        assert!(output.status.success(), "{said}");
+        let (_, rest) = said.split_once('<').unwrap();
+        rest.split_once('>').unwrap().0.to_owned()
+    };
+    assert_eq!(in_environment(None, None), "[None, None]");
+    assert_eq!(in_environment(Some(b"/a:/b"), Some(b"")), r#"[Some("/a:/b"), Some("")]"#);
+    let refused = in_environment(Some(b"/a"), Some(b"/\xff"));
+    assert!(refused.contains("environment variable PKG_CONFIG_PATH_FOR_TARGET is not UTF-8"), "{refused}");
 }
