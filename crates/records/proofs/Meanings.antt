@@ -2,32 +2,32 @@
 use Prim.Native.Nat.{ℕ, zero, suc, _+_, _*_, _-_, _≤_, _<_}
 use mathlib.Core.Path.{_≡_, refl, sym, _∙_, ap, subst}
 use mathlib.Core.Bool.{Bool, true, false}
-use mathlib.Core.List.{List, [], _∷_, _++_, map}
-use mathlib.Core.Option.{Option, none, some}
+use mathlib.Core.List.{List, [], map}
+use mathlib.Core.Option.{none, some}
 use native.Mathlib.Decide.{decLt}
 use native.Mathlib.Omega.{arith}
-use lib.ListN.{length, getD, take, drop, length-append}
+use lib.ListN.{length, getD, drop, length-append}
 use lib.Seq.{getD-take, getD-drop}
 use borrow.Author.Tests.{leb-true, leb-false}
 use Rattle.rules.specs.Bytes.{pick, toLittle}
 use Rattle.rules.specs.Tokens.{Token}
 use Rattle.rules.specs.Numbers.{WhileResolving, InField, UndefinedVariable, ContentTooLarge, Result, refused, ok, _>>=_}
-use Rattle.rules.specs.Lines.{Part, isString, Template, string, list, Assignment, Field, File, fieldAt}
-use Rattle.rules.specs.Variables.{Piece, Found, Expansion, large, missing, expand, lookUp}
-use Rattle.rules.specs.Fields.{expanded, Content, single, many, resolveParts, resolveArguments, resolveTemplate, Present, fieldsFrom, resolveFields}
+use Rattle.rules.specs.Lines.{Part, isString, File, fieldAt}
+use Rattle.rules.specs.Variables.{Expansion, large, missing, expand, lookUp}
+use Rattle.rules.specs.Fields.{expanded, Content, resolveParts, resolveArguments, resolveTemplate, fieldsFrom, resolveFields}
 use Rattle.rules.specs.Records.{recordBytes, argumentRecords, recordsOf, records}
 use Rattle.scan.proofs.Littles.{length-little}
 use Rattle.tokens.specs.Entries.{decode, tokenAt}
 use Rattle.workspace.specs.Map.{Room, startsOf, endsOf, partsBetween, argumentsFrom, templateAt, fieldOfEntry, fieldIn, Looked, Holds}
 use Rattle.workspace.proofs.Links.{between-looked, keys-length}
-use Rattle.passes.specs.Sums.{top, sizeAt, advance}
+use Rattle.passes.specs.Sums.{sizeAt}
 use Rattle.passes.specs.declared.sums.Advance.{Advance}
 use Rattle.passes.specs.declared.sums.Advance.the-variants as Adv
 use Rattle.passes.proofs.FieldSums as sums
-use Rattle.writer.specs.Tables.{Tables, tablesIn, pieces, value, joined, valueBetween}
+use Rattle.writer.specs.Tables.{Tables, tablesIn, pieces, value, valueBetween}
 use Rattle.writer.specs.Writing.{Ready}
 use Rattle.writer.proofs.Uses as uses
-use Rattle.records.specs.Contents.{fieldsOf, valuesFrom, contentAt, presentAt, presents, Valued, Listed, Fielded, Spans}
+use Rattle.records.specs.Contents.{fieldsOf, valuesFrom, contentAt, presentAt, presents, Spans}
 use Rattle.records.specs.Measuring.{onSum, onNeed, sumOfRow, measureRows, measureEntry, measureFields, measureIn}
 use Rattle.records.specs.Recording.{entryBytes, Fieldable}
 use Rattle.records.specs.declared.measure.Measured.{Measured}

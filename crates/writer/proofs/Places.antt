@@ -1,11 +1,11 @@
 -- Laws of the remembered places, and of the scratch. Assumes nothing.
 use Prim.Native.Nat.{ℕ, _+_, _*_, _-_, _/_, _%_, _≤_, _<_}
-use mathlib.Core.Path.{_≡_, refl, sym, _∙_, ap}
+use mathlib.Core.Path.{_≡_, refl, _∙_}
 use mathlib.Core.List.{List, [], _∷_, _++_, append-assoc}
 use native.Mathlib.Nat.{div-add-mod'}
 use native.Mathlib.Omega.{arith}
 use lib.ListN.{length, getD, take, drop, set, replicate, length-set, length-replicate, getD-replicate}
-use lib.Seq.{take-at, take-take, getD-take, getD-set-same, getD-set-other}
+use lib.Seq.{take-at, getD-set-same, getD-set-other}
 use Rattle.scan.specs.Stores.{puts}
 use Rattle.scan.proofs.Stores.{length-puts, take-puts, drop-puts, getD-puts-below, getD-stored, drop-stored}
 use Rattle.writer.specs.Writing.{placeIn, Apart}

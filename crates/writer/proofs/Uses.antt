@@ -14,8 +14,8 @@ use Rattle.rules.proofs.Lengths.{entries}
 use Rattle.scan.specs.Stores.{puts}
 use Rattle.scan.proofs.Stores.{puts-puts, column-before}
 use Rattle.workspace.specs.Map.{Room, keysOf, endsOf, lengthsOf, rulesIn}
-use Rattle.writer.specs.Tables.{Tables, tablesIn, valuesOf, orEmpty, rules, value, joined}
-use Rattle.writer.specs.Writing.{placeIn, Held, Remembered, Known, Ready, Apart, Written}
+use Rattle.writer.specs.Tables.{Tables, tablesIn, valuesOf, orEmpty, value, joined}
+use Rattle.writer.specs.Writing.{placeIn, Remembered, Known, Ready, Apart, Written}
 use Rattle.writer.proofs.Places.{forgotten, apart-none, apart-more, apart-puts}
 use Rattle.writer.proofs.Sounds.{has-all}
 
