@@ -16,7 +16,7 @@ use Rattle.scan.proofs.Stores.{puts-puts, column-before}
 use Rattle.workspace.specs.Map.{Room, keysOf, endsOf, lengthsOf, rulesIn}
 use Rattle.writer.specs.Tables.{Tables, tablesIn, valuesOf, orEmpty, value, joined}
 use Rattle.writer.specs.Writing.{placeIn, Remembered, Known, Ready, Apart, Written}
-use Rattle.writer.proofs.Places.{forgotten, apart-none, apart-more, apart-puts}
+use Rattle.writer.proofs.Places.{forgotten, scratch-fits, apart-none, apart-more, apart-puts}
 use Rattle.writer.proofs.Sounds.{has-all}
 
 -- once the passes are done the tables are ready
@@ -35,7 +35,7 @@ fresh n v t ws out at h j k p = absurd (omega (arith, forgotten n ws v j h k))
 
 pub fresh-apart : (n count v : ℕ) (ws : List ℕ) → Room n count v ws → Apart n ws (puts ws (9 * n) (replicate (2 * v) 0))
 fresh-apart n count v ws r =
-    apart-puts n ws (9 * n) (replicate (2 * v) 0) (omega arith) (omega (arith, length-replicate {A = ℕ} (2 * v) 0, r .few, r .tokens))
+    apart-puts n ws (9 * n) (replicate (2 * v) 0) (omega arith) (omega (arith, length-replicate {A = ℕ} (2 * v) 0, scratch-fits r))
 
 module _ {n v : ℕ} {t : Tables} {ws out : List ℕ} {at : ℕ} where
   -- bytes from elsewhere, as a record's head
