@@ -6,7 +6,6 @@ use mathlib.Core.List.{List, [], _∷_}
 use native.Mathlib.Nat.{add-zero}
 use native.Mathlib.Decide.{decLt}
 use native.Mathlib.Omega.{arith}
-use lib.Dec.{ltb}
 use lib.ListN.{length, getD, take, drop, drop-of-length-le, List·getD-eq-default}
 use lib.Seq.{drop-cons, drop-drop, getD-drop, take-nil}
 use borrow.Author.Tests.{lt-ltb, le-ltb}
@@ -103,7 +102,7 @@ module _ (ts : List Token) (ranks : List ℕ) where
     Advances k s Adv.Over = add lens s (piecesBetween ts ranks k to) ≡ Sum.over
     Advances k s (Adv.Missing j t) =
         (j < length ts) × (t ≤ top) × Reaches lens s (piecesBetween ts ranks k to) t (piecesBetween ts ranks j to)
-        × (add lens s (piecesBetween ts ranks k to) ≡ Sum.missing (tokenAt ts j))
+        × (add lens s (piecesBetween ts ranks k to) ≡ Sum.missing (tokenAt ts j)) × (j < to) × (sizeOf lens (getD ranks j 0) (tokenAt ts j) ≡ 0)
     Advances k s (Adv.Sum t) = (t ≤ top) × (add lens s (piecesBetween ts ranks k to) ≡ Sum.sum t)
 
     abbrev size : ℕ → ℕ
@@ -112,8 +111,11 @@ module _ (ts : List Token) (ranks : List ℕ) where
     -- going on later
     before : (k s j t : ℕ) (r : Advance) → Reaches lens s (piecesBetween ts ranks k to) t (piecesBetween ts ranks j to) → Advances j t r → Advances k s r
     before k s j t Adv.Over g a = g lens (extends-refl lens) ∙ a
-    before k s j t (Adv.Missing i u) g a = (a .0, a .1, (λ m x. g m x ∙ a .2 m x), g lens (extends-refl lens) ∙ a .3)
+    before k s j t (Adv.Missing i u) g a = (a .0, a .1, (λ m x. g m x ∙ a .2 m x), g lens (extends-refl lens) ∙ a .3, a .4, a .5)
     before k s j t (Adv.Sum u) g a = (a .0, g lens (extends-refl lens) ∙ a .1)
+
+    pub add-stopped : (k s : ℕ) → k < to → size k ≡ 0 → add lens s (piecesBetween ts ranks k to) ≡ Sum.missing (tokenAt ts k)
+    add-stopped k s h e = ap (add lens s) (pieces-more k to h) ∙ add-lacking lens (getD ranks k 0) (tokenAt ts k) s (piecesBetween ts ranks (suc k) to) e
 
     module _ (k s : ℕ) (h : k < to) (f : s ≤ top) where
       at-missing : size k ≡ 0 → Advances k s (Adv.Missing k s)
@@ -122,7 +124,9 @@ module _ (ts : List Token) (ranks : List ℕ) where
         elim (decLt k (length ts)) [ yes l ↦ l | no l ↦ absurd (let y = past-none k (omega arith) in let z : 1 ≡ 0 = rw (y .1) at e in omega arith) ],
         f,
         λ m x. refl,
-        ap (add lens s) (pieces-more k to h) ∙ add-lacking lens (getD ranks k 0) (tokenAt ts k) s (piecesBetween ts ranks (suc k) to) e,
+        add-stopped k s h e,
+        h,
+        e,
       )
 
       module _ (x : ℕ) (e : size k ≡ suc x) where

@@ -1,11 +1,11 @@
 -- The sum of a string value's tokens, or of one argument's, is the length of what the rules resolve them to. Assumes nothing.
 use Prim.Native.Nat.{ℕ, _-_, _≤_}
-use mathlib.Core.Path.{_≡_, refl, sym, _∙_, ap, ap₂}
+use mathlib.Core.Path.{_≡_, refl, sym, _∙_, ap₂}
 use mathlib.Core.List.{List, [], map}
 use native.Mathlib.Omega.{arith}
-use lib.ListN.{length, getD}
+use lib.ListN.{length}
 use Rattle.rules.specs.Tokens.{Token}
-use Rattle.rules.specs.Numbers.{WhileResolving, UndefinedVariable, ContentTooLarge, Result, refused, ok}
+use Rattle.rules.specs.Numbers.{WhileResolving, UndefinedVariable, ContentTooLarge, refused, ok}
 use Rattle.rules.specs.Lines.{Assignment}
 use Rattle.rules.specs.Variables.{Piece, Found, Expansion, large, missing, value, expand, lookUp}
 use Rattle.rules.specs.Fields.{expanded, resolveParts}

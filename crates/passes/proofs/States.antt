@@ -7,7 +7,6 @@ use native.Mathlib.Decide.{decLt}
 use native.Mathlib.Omega.{arith}
 use lib.ListN.{length, getD, take, drop, set, length-set, length-drop}
 use lib.Seq.{getD-set-other, getD-set-same, take-set-le, drop-set-lt, length-take-le}
-use Rattle.rules.specs.Tokens.{Token}
 use Rattle.rules.specs.Variables.{Piece}
 use Rattle.rules.proofs.Lengths.{Sum, add}
 use Rattle.scan.proofs.Stores.{column-after, column-before, column-inside}
@@ -15,15 +14,14 @@ use Rattle.tokens.specs.Entries.{decode, tokenAt}
 use Rattle.tokens.proofs.TokenLaws.{length-decode}
 use Rattle.workspace.specs.Map.{keysOf, startsOf, endsOf, ranksOf, lengthsOf, ruleAt, rulesIn, Room}
 use Rattle.workspace.proofs.Frames.{decode-low, column-low, rules-low}
-use Rattle.workspace.proofs.Links.{keys-length, rules-length}
-use Rattle.passes.specs.Sums.{top, sizeAt, advance, Extends, Reaches}
-use Rattle.passes.specs.Visits.{stopsOf, sumsOf, resumeAt, startAt, endAt, rule, restOf, advanceIn, Resumes, State, Visits, Lacking}
+use Rattle.passes.specs.Sums.{top, sizeAt, advance, Extends}
+use Rattle.passes.specs.Visits.{stopsOf, sumsOf, resumeAt, startAt, endAt, rule, restOf, advanceIn, Resumes, State, Visits, Beyond, Lacking}
 use Rattle.passes.proofs.Advances.{Advances, advances, extends-refl, extends-then}
 use Rattle.passes.specs.declared.sums.Advance.{Advance}
 use Rattle.passes.specs.declared.sums.Advance.the-variants as Adv
 use Rattle.passes.specs.declared.visits.Visited.the-variants as Vis
 
-dec-eq : (j i : ℕ) → Dec (j ≡ i)
+pub dec-eq : (j i : ℕ) → Dec (j ≡ i)
 dec-eq j i = go (decLt j i) (decLt i j)
   where
     go : Dec (j < i) → Dec (i < j) → Dec (j ≡ i)
@@ -51,13 +49,13 @@ module _ {n count v : ℕ} {ws : List ℕ} (R : Room n count v ws) where
       map-at (ruleAt (decode count ws pool) (ranksOf n ws) (startsOf n ws) (endsOf n ws)) (keysOf n v ws) i (omega (arith, column-length (4 * n) (omega arith)))
 
 -- one store, and a column of n entries: before it, past it, in it
-column-above : (m b i x : ℕ) (ws : List ℕ) → b + m ≤ i → take m (drop b (set ws i x)) ≡ take m (drop b ws)
+pub column-above : (m b i x : ℕ) (ws : List ℕ) → b + m ≤ i → take m (drop b (set ws i x)) ≡ take m (drop b ws)
 column-above m b i x ws h = column-before m b ws i (x ∷ []) h
 
-column-below : (m b i x : ℕ) (ws : List ℕ) → i < b → take m (drop b (set ws i x)) ≡ take m (drop b ws)
+pub column-below : (m b i x : ℕ) (ws : List ℕ) → i < b → take m (drop b (set ws i x)) ≡ take m (drop b ws)
 column-below m b i x ws h = column-after m b ws i (x ∷ []) (omega arith)
 
-column-at : (m b i x : ℕ) (ws : List ℕ) → i < m → take m (drop b (set ws (b + i) x)) ≡ set (take m (drop b ws)) i x
+pub column-at : (m b i x : ℕ) (ws : List ℕ) → i < m → take m (drop b (set ws (b + i) x)) ≡ set (take m (drop b ws)) i x
 column-at m b i x ws h = column-inside m b ws i (x ∷ []) (omega arith)
 
 module _ {n count v : ℕ} {pool ws₀ ws : List ℕ} (S : State n count v pool ws₀ ws) where
@@ -139,9 +137,9 @@ module _ {n count v : ℕ} {pool ws : List ℕ} (S : State n count v pool ws ws)
   goes r e =
       rw e (advances (decode count ws pool) (ranksOf n ws) (lengthsOf n v ws) (endAt n v ws i) (resumeAt (startAt n v ws i) (getD (stopsOf n v ws) i 0)) (getD (sumsOf n v ws) i 0) (S .resumes i h .fits))
 
-  pub visit-over : Adv.Over ≡ advanceIn n count v ws pool i → State n count v pool ws ws × Visits n count v pool ws ws i Vis.Over
+  pub visit-over : Adv.Over ≡ advanceIn n count v ws pool i → State n count v pool ws ws × Visits n count v pool ws ws i Vis.Over × Beyond n ws ws
   unfolding restOf
-  visit-over e = (S, gone ∙ goes Adv.Over e)
+  visit-over e = (S, gone ∙ goes Adv.Over e, refl)
 
   module _ (k t : ℕ) (e : Adv.Missing k t ≡ advanceIn n count v ws pool i) where
     pub stop-inside : k < n
@@ -186,7 +184,8 @@ module _ {n count v : ℕ} {pool ws : List ℕ} (S : State n count v pool ws ws)
       | no p ↦ rw (getD-set-other (stopsOf n v ws) i j (k + 1) 0 p, getD-set-other (sumsOf n v ws) i j t 0 p) (S .resumes j q)
     ]
 
-    pub visit-blocked : State n count v pool ws (set (set ws (9 * n + i) (k + 1)) (10 * n + i) t) × Visits n count v pool ws (set (set ws (9 * n + i) (k + 1)) (10 * n + i) t) i Vis.Blocked
+    pub visit-blocked : State n count v pool ws (set (set ws (9 * n + i) (k + 1)) (10 * n + i) t) × Visits n count v pool ws (set (set ws (9 * n + i) (k + 1)) (10 * n + i) t) i (Vis.Blocked k)
+        × Beyond n ws (set (set ws (9 * n + i) (k + 1)) (10 * n + i) t)
     unfolding stopped
     visit-blocked =
         let f = few (S .room) in (
@@ -194,10 +193,11 @@ module _ {n count v : ℕ} {pool ws : List ℕ} (S : State n count v pool ws ws)
             room = S .room;
             long = length-set (set ws (9 * n + i) (k + 1)) (10 * n + i) t ∙ length-set ws (9 * n + i) (k + 1);
             low = take-set-le (8 * n) (set ws (9 * n + i) (k + 1)) (10 * n + i) t (omega arith) ∙ take-set-le (8 * n) ws (9 * n + i) (k + 1) (omega arith);
-            high = drop-set-lt (11 * n) (set ws (9 * n + i) (k + 1)) (10 * n + i) t (omega arith) ∙ drop-set-lt (11 * n) ws (9 * n + i) (k + 1) (omega arith);
+            high = drop-set-lt (12 * n) (set ws (9 * n + i) (k + 1)) (10 * n + i) t (omega arith) ∙ drop-set-lt (12 * n) ws (9 * n + i) (k + 1) (omega arith);
             resumes = rw (lengths-stop, stops-stop, sums-stop) resumes-stop;
           },
-          (lengths-stop, (tokenAt (decode count ws pool) k, lacks-token)),
+          (lengths-stop, stops-stop ∙ rw add-one, goes (Adv.Missing k t) e .4, goes (Adv.Missing k t) e .5, lacks-token),
+          drop-set-lt (11 * n) (set ws (9 * n + i) (k + 1)) (10 * n + i) t (omega arith) ∙ drop-set-lt (11 * n) ws (9 * n + i) (k + 1) (omega arith),
         )
 
   module _ (t : ℕ) (e : Adv.Sum t ≡ advanceIn n count v ws pool i) where
@@ -211,7 +211,7 @@ module _ {n count v : ℕ} {pool ws : List ℕ} (S : State n count v pool ws ws)
         | no p ↦ getD-set-other (lengthsOf n v ws) i j (t + 1) 0 p ∙ q
       ]
 
-      pub visit-valued : State n count v pool ws (set ws (8 * n + i) (t + 1)) × Visits n count v pool ws (set ws (8 * n + i) (t + 1)) i Vis.Valued
+      pub visit-valued : State n count v pool ws (set ws (8 * n + i) (t + 1)) × Visits n count v pool ws (set ws (8 * n + i) (t + 1)) i Vis.Valued × Beyond n ws (set ws (8 * n + i) (t + 1))
       unfolding restOf
       visit-valued =
           let f = few (S .room) in
@@ -222,11 +222,12 @@ module _ {n count v : ℕ} {pool ws : List ℕ} (S : State n count v pool ws ws)
               room = S .room;
               long = length-set ws (8 * n + i) (t + 1);
               low = take-set-le (8 * n) ws (8 * n + i) (t + 1) (omega arith);
-              high = drop-set-lt (11 * n) ws (8 * n + i) (t + 1) (omega arith);
+              high = drop-set-lt (12 * n) ws (8 * n + i) (t + 1) (omega arith);
               resumes = rw (L, D, E)
                   (λ j q. record { same = λ m x. S .resumes j q .same m (extends-then (lengthsOf n v ws) (set (lengthsOf n v ws) i (t + 1)) m grows x); fits = S .resumes j q .fits });
             },
-            (t, gone ∙ goes (Adv.Sum t) e .1, L ∙ rw add-one),
+            (t, gone ∙ goes (Adv.Sum t) e .1, L ∙ rw add-one, D),
+            drop-set-lt (11 * n) ws (8 * n + i) (t + 1) (omega arith),
           )
 
   -- a variable that lacks a value

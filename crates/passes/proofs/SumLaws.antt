@@ -1,25 +1,21 @@
 -- Sums that go on: what the code reads, and what they come to by the rules. Assumes nothing.
-use Prim.Native.Nat.{ℕ, zero, suc, _+_, _*_, _-_, _≤_, _<_, _%_}
-use mathlib.Core.Path.{_≡_, refl, sym, _∙_, ap, ap₂}
+use Prim.Native.Nat.{ℕ, suc, _+_, _-_, _≤_, _<_, _%_}
+use mathlib.Core.Path.{_≡_, sym, _∙_}
 use mathlib.Core.Bool.{Bool, true, false}
 use mathlib.Core.List.{List, [], _∷_}
-use native.Mathlib.Nat.{add-zero}
 use native.Mathlib.Numerals.{add-one}
-use native.Mathlib.Decide.{decLt}
 use native.Mathlib.Omega.{arith}
-use lib.Dec.{eqb, ltb, leb}
-use lib.ListN.{length, getD, take, drop, length-take, length-drop, drop-of-length-le, List·getD-eq-default}
-use lib.Seq.{drop-cons, drop-drop, getD-drop, take-nil}
-use borrow.Author.Tests.{eq-eqb, ne-eqb, lt-ltb, le-ltb, eqb-true}
+use lib.Dec.{leb}
+use lib.ListN.{length, getD, take, drop, length-take, length-drop}
+use borrow.Author.Tests.{eq-eqb, ne-eqb, lt-ltb, le-ltb}
 use Rattle.rules.specs.Bytes.{pick}
-use Rattle.rules.specs.Tokens.{Token, token, isA, Variable, noName}
-use Rattle.rules.specs.Variables.{Piece, text, ref, limit}
-use Rattle.rules.proofs.Lengths.{Sum, boundedSum, add, add-missing, add-more}
+use Rattle.rules.specs.Tokens.{token, isA, Variable}
+use Rattle.rules.specs.Variables.{text}
+use Rattle.rules.proofs.Lengths.{Sum}
 use Rattle.tokens.specs.Entries.{decode, tokenAt, kindAt, entryAt, fromEntry}
 use Rattle.tokens.proofs.TokenLaws.{kind-at, token-by}
-use Rattle.workspace.specs.Map.{Dropped, pieceOf, piecesOf, piecesBetween, ranksOf, lengthsOf}
+use Rattle.workspace.specs.Map.{ranksOf, lengthsOf}
 use Rattle.passes.specs.Sums.{top, sizeOf, sizeAt, advance}
-use Rattle.passes.specs.declared.sums.Advance.{Advance}
 use Rattle.passes.specs.declared.sums.Advance.the-variants as Adv
 
 -- a text is no longer than the pool, or one byte

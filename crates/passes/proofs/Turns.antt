@@ -10,12 +10,14 @@ use lib.ListN.{length, getD, drop, set, replicate, drop-of-length-le}
 use lib.Seq.{drop-cons}
 use Rattle.rules.specs.Tokens.{Token}
 use Rattle.rules.specs.Variables.{Piece, text, ref, limit}
-use Rattle.rules.proofs.Lengths.{Sum, boundedSum, add, add-missing, add-more, Lens, passLens, lens-valued, lens-over, lens-missing, lens-sum, Settles, lackingLens, leftLens}
+use Rattle.rules.proofs.Lengths.{Sum, boundedSum, add, add-missing, add-more, lens-valued, lens-over, lens-missing, lens-sum, Settles, lackingLens, leftLens}
 use Rattle.tokens.specs.Entries.{decode, tokenAt}
 use Rattle.workspace.specs.Map.{rulesIn, lengthsOf, Room}
 use Rattle.workspace.proofs.Links.{rules-length}
-use Rattle.passes.specs.Visits.{rule, State, Visits, zeros, passFrom, Steps}
-use Rattle.passes.proofs.States.{few, column-length}
+use Rattle.passes.specs.Visits.{rule, advanceIn, State, Visits, zeros, Steps, Beyond}
+use Rattle.passes.proofs.States.{few, column-length, lacks-token}
+use Rattle.passes.specs.declared.sums.Advance.{Advance}
+use Rattle.passes.specs.declared.sums.Advance.the-variants as Adv
 use Rattle.passes.specs.declared.visits.Visited.{Visited}
 use Rattle.passes.specs.declared.visits.Visited.the-variants as Vis
 
@@ -51,35 +53,44 @@ module _ {n count v : ℕ} {pool ws : List ℕ} (S : State n count v pool ws ws)
   next : drop i (rulesIn n count v ws pool) ≡ rule n count v ws pool i ∷ drop (suc i) (rulesIn n count v ws pool)
   next = rule-next (S .room) pool i h
 
-  pub step-valued : (x ≡ 0 → ⊥) → State n count v pool ws ws × Steps n count v pool ws ws i Vis.Blocked
+  pub step-valued : (x ≡ 0 → ⊥) → State n count v pool ws ws × Steps n count v pool ws ws i Vis.Known × Beyond n ws ws
   step-valued z =
       let y = nonzero x z in (
         S,
         (
           refl,
+          λ q. z (e ∙ q),
           λ f. rw (next, add-one) (lens-valued i (rule n count v ws pool i) (drop (suc i) (rulesIn n count v ws pool)) f (lengthsOf n v ws) (y .0) (sym e ∙ y .1)),
-          λ q. absurd (z (e ∙ q)),
         ),
+        refl,
       )
 
-  pub step-visited : x ≡ 0 → (ws′ : List ℕ) (r : Visited) → State n count v pool ws ws′ × Visits n count v pool ws ws′ i r → State n count v pool ws ws′ × Steps n count v pool ws ws′ i r
+  pub step-visited : x ≡ 0 → (ws′ : List ℕ) (r : Visited) → State n count v pool ws ws′ × Visits n count v pool ws ws′ i r × Beyond n ws ws′
+      → State n count v pool ws ws′ × Steps n count v pool ws ws′ i r × Beyond n ws ws′
   step-visited z ws′ Vis.Over a =
-      (a .0, λ f. rw next (lens-over i (rule n count v ws pool i) (drop (suc i) (rulesIn n count v ws pool)) f (lengthsOf n v ws) (sym e ∙ z) (a .1)))
-  step-visited z ws′ Vis.Blocked a = (
+      (a .0, λ f. rw next (lens-over i (rule n count v ws pool i) (drop (suc i) (rulesIn n count v ws pool)) f (lengthsOf n v ws) (sym e ∙ z) (a .1)), a .2)
+  step-visited z ws′ Vis.Known a = absurd (a .1)
+  step-visited z ws′ (Vis.Blocked k) a = (
     a .0,
     (
       a .1 .0,
-      λ f. rw (next, add-one) (lens-missing i (rule n count v ws pool i) (drop (suc i) (rulesIn n count v ws pool)) f (lengthsOf n v ws) (a .1 .1 .0) (sym e ∙ z) (a .1 .1 .1)),
-      λ q. a .1 .1,
+      a .1 .1,
+      a .1 .2,
+      a .1 .3,
+      λ f. rw (next, add-one) (lens-missing i (rule n count v ws pool i) (drop (suc i) (rulesIn n count v ws pool)) f (lengthsOf n v ws) (tokenAt (decode count ws pool) k) (sym e ∙ z) (a .1 .4)),
     ),
+    a .2,
   )
   step-visited z ws′ Vis.Valued a = (
     a .0,
     (
+      a .1 .0,
       rw (a .1 .2) (zeros-set (lengthsOf n v ws) i (a .1 .0) (omega (arith, column-length (S .room) (8 * n) (omega arith))) (sym e ∙ z)),
+      a .1 .2,
+      a .1 .3,
       λ f. rw (next, add-one, a .1 .2) (lens-sum i (rule n count v ws pool i) (drop (suc i) (rulesIn n count v ws pool)) f (lengthsOf n v ws) (a .1 .0) (sym e ∙ z) (a .1 .1)),
-      (a .1 .0, a .1 .2),
     ),
+    a .2,
   )
 
 -- what is missing is what the rules say is lacking
@@ -91,7 +102,7 @@ bounded-missing n x m e = go (ltb limit n) refl
     go true q = let y : Sum.over ≡ Sum.missing m = rw (q, boundedSum) at e in absurd (let z : _≡_ {A = ℕ} 0 1 = cc in omega arith)
     go false q = rw (q, boundedSum) at e
 
-pub lacking-is : (lens : List ℕ) (ps : List Piece) (n : ℕ) (m : Token) → add lens n ps ≡ Sum.missing m → lackingLens lens ps ≡ m
+lacking-is : (lens : List ℕ) (ps : List Piece) (n : ℕ) (m : Token) → add lens n ps ≡ Sum.missing m → lackingLens lens ps ≡ m
 unfolding add lackingLens
 lacking-is lens [] n m e = absurd (let z : _≡_ {A = ℕ} 0 1 = cc in omega arith)
 lacking-is lens (text s ∷ ps) n m e = lacking-is lens ps (n + length s) m (bounded-missing (n + length s) (add lens (n + length s) ps) m e)
@@ -100,6 +111,12 @@ lacking-is lens (ref r j ∷ ps) n m e = go (getD lens j 0) refl (λ k q. lackin
     go : (x : ℕ) → getD lens j 0 ≡ x → ((k : ℕ) → add lens (n + k) ps ≡ Sum.missing m → lackingLens lens ps ≡ m) → lackingLens lens (ref r j ∷ ps) ≡ m
     go zero q ih = let y : Sum.missing r ≡ Sum.missing m = sym (add-missing lens n r j ps q) ∙ e in rw (q, lackingLens) cc
     go (suc k) q ih = rw (q, lackingLens) (ih k (bounded-missing (n + k) (add lens (n + k) ps) m (sym (add-more lens n r j ps k q) ∙ e)))
+
+-- what `lacking` answers, where r is what going on with the sum comes to
+pub lacking-token : {n count v : ℕ} {pool ws : List ℕ} → State n count v pool ws ws → (i : ℕ) → i < v → (r : Advance) (k t : ℕ) → r ≡ advanceIn n count v ws pool i → r ≡ Adv.Missing k t
+    → lackingLens (lengthsOf n v ws) (rule n count v ws pool i) ≡ tokenAt (decode count ws pool) k
+lacking-token {n} {count} {v} {pool} {ws} S i h r k t e q =
+    lacking-is (lengthsOf n v ws) (rule n count v ws pool i) 0 (tokenAt (decode count ws pool) k) (lacks-token S i h k t (sym q ∙ e))
 
 -- the smallest name left, from the i-th on
 abbrev pub LeftFrom : ℕ → ℕ → ℕ → List ℕ → List ℕ → ℕ → Type 0

@@ -1,2 +1,4 @@
 pub mod Sums
 pub mod Visits
+pub mod Blocks
+pub mod Passes

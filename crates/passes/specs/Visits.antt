@@ -53,21 +53,27 @@ pub record Resumes (lens : List ℕ) (ps rest : List Piece) (s : ℕ) : Type 0 w
   pub same : Reaches lens 0 ps s rest
   pub fits : s ≤ top
 
--- There is room, all but the columns at 8n, 9n and 10n is as it was, and each variable can go on where it stopped
+-- There is room, all but the columns from 8n up to 12n is as it was, and each variable can go on where it stopped
 pub record State (n count v : ℕ) (pool ws₀ ws : List ℕ) : Type 0 where
   pub room : Room n count v ws₀
   pub long : length ws ≡ length ws₀
   pub low : take (8 * n) ws ≡ take (8 * n) ws₀
-  pub high : drop (11 * n) ws ≡ drop (11 * n) ws₀
+  pub high : drop (12 * n) ws ≡ drop (12 * n) ws₀
   pub resumes : (i : ℕ) → i < v
       → Resumes (lengthsOf n v ws) (rule n count v ws₀ pool i) (restOf n count v ws₀ pool i (getD (stopsOf n v ws) i 0)) (getD (sumsOf n v ws) i 0)
 
--- a visit of variable i
+-- a visit of variable i, which has no value; what stands from 11n on it leaves
 abbrev pub Visits : ℕ → ℕ → ℕ → List ℕ → List ℕ → List ℕ → ℕ → Visited → Type 0
 Visits n count v pool ws ws′ i Vis.Over = add (lengthsOf n v ws) 0 (rule n count v ws pool i) ≡ Sum.over
-Visits n count v pool ws ws′ i Vis.Blocked = (lengthsOf n v ws′ ≡ lengthsOf n v ws) × ((m : Token) × (add (lengthsOf n v ws) 0 (rule n count v ws pool i) ≡ Sum.missing m))
+Visits n count v pool ws ws′ i Vis.Known = ⊥
+Visits n count v pool ws ws′ i (Vis.Blocked k) =
+    (lengthsOf n v ws′ ≡ lengthsOf n v ws) × (stopsOf n v ws′ ≡ set (stopsOf n v ws) i (suc k)) × (k < endAt n v ws i) × (sizeAt n count v ws pool k ≡ 0)
+    × (add (lengthsOf n v ws) 0 (rule n count v ws pool i) ≡ Sum.missing (tokenAt (decode count ws pool) k))
 Visits n count v pool ws ws′ i Vis.Valued =
-    (t : ℕ) × (add (lengthsOf n v ws) 0 (rule n count v ws pool i) ≡ Sum.sum t) × (lengthsOf n v ws′ ≡ set (lengthsOf n v ws) i (suc t))
+    (t : ℕ) × (add (lengthsOf n v ws) 0 (rule n count v ws pool i) ≡ Sum.sum t) × (lengthsOf n v ws′ ≡ set (lengthsOf n v ws) i (suc t)) × (stopsOf n v ws′ ≡ stopsOf n v ws)
+
+abbrev pub Beyond : ℕ → List ℕ → List ℕ → Type 0
+Beyond n ws ws′ = drop (11 * n) ws′ ≡ drop (11 * n) ws
 
 -- how many have no value
 unfoldable pub zeros : List ℕ → ℕ
@@ -82,14 +88,14 @@ passFrom n count v ws pool i found lens = passLens i (drop i (rulesIn n count v 
 -- variable i's turn in a pass
 abbrev pub Steps : ℕ → ℕ → ℕ → List ℕ → List ℕ → List ℕ → ℕ → Visited → Type 0
 Steps n count v pool ws ws′ i Vis.Over = (f : Bool) → passFrom n count v ws pool i f (lengthsOf n v ws) ≡ Lens.stopped i
-Steps n count v pool ws ws′ i Vis.Blocked =
-    (lengthsOf n v ws′ ≡ lengthsOf n v ws)
+Steps n count v pool ws ws′ i Vis.Known =
+    (ws′ ≡ ws) × (getD (lengthsOf n v ws) i 0 ≡ 0 → ⊥) × ((f : Bool) → passFrom n count v ws pool i f (lengthsOf n v ws) ≡ passFrom n count v ws pool (i + 1) f (lengthsOf n v ws))
+Steps n count v pool ws ws′ i (Vis.Blocked k) =
+    (lengthsOf n v ws′ ≡ lengthsOf n v ws) × (stopsOf n v ws′ ≡ set (stopsOf n v ws) i (suc k)) × (k < endAt n v ws i) × (sizeAt n count v ws pool k ≡ 0)
     × ((f : Bool) → passFrom n count v ws pool i f (lengthsOf n v ws) ≡ passFrom n count v ws pool (i + 1) f (lengthsOf n v ws))
-    × (getD (lengthsOf n v ws) i 0 ≡ 0 → (m : Token) × (add (lengthsOf n v ws) 0 (rule n count v ws pool i) ≡ Sum.missing m))
 Steps n count v pool ws ws′ i Vis.Valued =
-    (zeros (lengthsOf n v ws′) < zeros (lengthsOf n v ws))
+    (x : ℕ) × (zeros (lengthsOf n v ws′) < zeros (lengthsOf n v ws)) × (lengthsOf n v ws′ ≡ set (lengthsOf n v ws) i (suc x)) × (stopsOf n v ws′ ≡ stopsOf n v ws)
     × ((f : Bool) → passFrom n count v ws pool i f (lengthsOf n v ws) ≡ passFrom n count v ws pool (i + 1) true (lengthsOf n v ws′))
-    × ((x : ℕ) × (lengthsOf n v ws′ ≡ set (lengthsOf n v ws) i (suc x)))
 
 -- variable i has a reference without a value
 pub record Lacking (n count v : ℕ) (pool ws : List ℕ) (i : ℕ) : Type 0 where

@@ -7,14 +7,16 @@ ghost use lib.ListN.{getD};
 ghost use Rattle.rules.proofs.Lengths.{leftLens, lackingLens};
 ghost use Rattle.tokens.specs.Entries.{decode, tokenAt};
 ghost use Rattle.workspace.specs.Map.{rulesIn, lengthsOf};
-ghost use Rattle.passes.specs.Visits.{State, advanceIn, rule, Visits, Steps, Lacking, Stuck, meaning};
+ghost use Rattle.passes.specs.Visits.{State, advanceIn, rule, Visits, Steps, Beyond, Lacking, Stuck, meaning};
 use crate::sums::Advance;
 use crate::sums::sum_on;
 use scan::column::cell;
 
+// What a turn finds: a sum above the limit; a value that was there; a value that lacks, at this token; a new value.
 pub enum Visited {
     Over,
-    Blocked,
+    Known,
+    Blocked(usize),
     Valued,
 }
 
@@ -44,7 +46,7 @@ fn resume(ws: &[u32], pool: &[u8], n: usize, count: usize, v: usize, i: usize) -
 // Visits variable i, which has no value yet.
 fn visit(ws: &mut [u32], pool: &[u8], n: usize, count: usize, v: usize, i: usize) -> Visited
     requires { ⌜ State n count v (now pool) (now ws) (now ws) × (i < v) × (getD (lengthsOf n v (now ws)) i 0 ≡ 0) ⌝ }
-    ensures { λ r. ⌜ State n count v (now (pool .entry)) (now (ws .entry)) (now (ws .exit)) × Visits n count v (now (pool .entry)) (now (ws .entry)) (now (ws .exit)) i r ⌝ }
+    ensures { λ r. ⌜ State n count v (now (pool .entry)) (now (ws .entry)) (now (ws .exit)) × Visits n count v (now (pool .entry)) (now (ws .entry)) (now (ws .exit)) i r × Beyond n (now (ws .entry)) (now (ws .exit)) ⌝ }
 {
     let a = resume(ws, pool, n, count, v, i);
     match a {
@@ -52,7 +54,7 @@ fn visit(ws: &mut [u32], pool: &[u8], n: usize, count: usize, v: usize, i: usize
         Advance::Missing(j, sum) => {
             ws[9 * n + i] = (j + 1) as u32;
             ws[10 * n + i] = sum as u32;
-            Visited::Blocked
+            Visited::Blocked(j)
         }
         Advance::Sum(sum) => {
             ws[8 * n + i] = (sum + 1) as u32;
@@ -64,12 +66,12 @@ fn visit(ws: &mut [u32], pool: &[u8], n: usize, count: usize, v: usize, i: usize
 // Variable i's turn in a pass.
 pub fn step(ws: &mut [u32], pool: &[u8], n: usize, count: usize, v: usize, i: usize) -> Visited
     requires { ⌜ State n count v (now pool) (now ws) (now ws) × (i < v) ⌝ }
-    ensures { λ r. ⌜ State n count v (now (pool .entry)) (now (ws .entry)) (now (ws .exit)) × Steps n count v (now (pool .entry)) (now (ws .entry)) (now (ws .exit)) i r ⌝ }
+    ensures { λ r. ⌜ State n count v (now (pool .entry)) (now (ws .entry)) (now (ws .exit)) × Steps n count v (now (pool .entry)) (now (ws .entry)) (now (ws .exit)) i r × Beyond n (now (ws .entry)) (now (ws .exit)) ⌝ }
 {
     if cell(ws, 8 * n, v, i) == 0 {
         return visit(ws, pool, n, count, v, i);
     }
-    Visited::Blocked
+    Visited::Known
 }
 
 // The token of variable i's first reference without a value.

@@ -1,20 +1,17 @@
 -- What each part of the map rests on, and so what stores elsewhere leave as it was. Assumes nothing.
-use Prim.Native.Nat.{ℕ, zero, suc, _+_, _*_, _-_, _≤_, _<_}
+use Prim.Native.Nat.{ℕ, zero, suc, _+_, _*_, _≤_, _<_}
 use mathlib.Core.Path.{_≡_, refl, sym, _∙_, ap}
-use mathlib.Core.Bool.{true}
-use mathlib.Core.List.{List, [], _∷_, map}
-use mathlib.Core.Option.{Option}
-use native.Mathlib.Nat.{add-zero, zero-add}
+use mathlib.Core.List.{List, [], _∷_}
+use native.Mathlib.Nat.{zero-add}
 use native.Mathlib.Omega.{arith}
 use lib.ListN.{length, getD, take, drop, set}
-use lib.Seq.{take-take, take-nil, drop-nil, getD-take, getD-drop, take-set-le, drop-set-lt}
-use Rattle.rules.specs.Lines.{Field, Assignment, File}
-use Rattle.rules.specs.Variables.{Piece}
+use lib.Seq.{take-take, take-nil, getD-take, getD-drop, take-set-le, drop-set-lt}
+use Rattle.rules.specs.Lines.{Assignment, File}
 use Rattle.tokens.specs.Entries.{decode, kinds}
 use Rattle.tokens.proofs.TokenLaws.{decode-same, kinds-same}
 use Rattle.scan.specs.Stores.{puts}
 use Rattle.scan.proofs.Stores.{take-puts, drop-puts}
-use Rattle.workspace.specs.Map.{keysOf, startsOf, endsOf, ranksOf, variableAt, variablesIn, ruleAt, rulesIn, fieldOfEntry, fieldIn, Looked, Holds}
+use Rattle.workspace.specs.Map.{keysOf, startsOf, endsOf, ranksOf, variablesIn, rulesIn, fieldIn, Looked, Holds}
 
 take-drop : (n b : ℕ) (l : List ℕ) → take n (drop b l) ≡ drop b (take (b + n) l)
 take-drop n zero l = rw zero-add

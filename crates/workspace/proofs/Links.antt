@@ -1,15 +1,15 @@
 -- Once the references are looked up, the workspace holds the rules of its variables. Assumes nothing.
-use Prim.Native.Nat.{ℕ, zero, suc, _+_, _*_, _-_, _≤_, _<_}
+use Prim.Native.Nat.{ℕ, suc, _+_, _*_, _-_, _≤_, _<_}
 use mathlib.Core.Path.{_≡_, refl, sym, _∙_, ap, ap₂}
 use mathlib.Core.Bool.{Bool, true, false}
 use mathlib.Core.List.{List, [], _∷_, map}
 use native.Mathlib.Omega.{arith}
-use lib.ListN.{length, getD, take, drop, length-take, length-drop, length-map}
+use lib.ListN.{length, getD, drop, length-take, length-drop, length-map}
 use lib.Seq.{getD-take, getD-drop, length-take-le}
 use Rattle.rules.specs.Bytes.{pick}
 use Rattle.rules.specs.Tokens.{Token, isA, Variable, noName}
-use Rattle.rules.specs.Lines.{Part, asPart, Assignment}
-use Rattle.rules.specs.Variables.{Piece, text, ref, rankOf, lookUp, rulesOf}
+use Rattle.rules.specs.Lines.{asPart, Assignment}
+use Rattle.rules.specs.Variables.{Piece, text, rankOf, lookUp, rulesOf}
 use Rattle.tokens.specs.Entries.{decode, tokenAt}
 use Rattle.tokens.proofs.TokenLaws.{length-decode}
 use Rattle.workspace.specs.Map.{Dropped, partsOf, between, partsBetween, pieceOf, piecesOf, piecesBetween, keysOf, startsOf, endsOf, ranksOf, variableAt, variablesIn, ruleAt, rulesIn, Looked}

@@ -1,7 +1,5 @@
-use Rattle.passes.proofs.States.{lacks-over, lacks-token, lacks-sum}
-use Rattle.passes.proofs.Turns.{lacking-is}
-use Rattle.passes.specs.Visits.{rule}
-use Rattle.workspace.specs.Map.{lengthsOf}
+use Rattle.passes.proofs.States.{lacks-over, lacks-sum}
+use Rattle.passes.proofs.Turns.{lacking-token}
 use mathlib.Core.Path.{sym, _∙_}
 use borrow.Author.Needs.{needs}
 use Rattle.passes.proofs.visits.lacking.Statement.{statement}
@@ -23,7 +21,7 @@ returns : tie.Need-returns
 returns c = absurd (lacks-over (c .before .before .before .before .before .pre .0) (c .before .before .before .before .before .args .i) (c .before .before .before .before .before .pre .1) (c .before .before .before .before .before .pre .2) (sym (c .enum-told .given .1) ∙ c .before .before .resume .ensures))
 
 returns-2 : tie.Need-returns-2
-returns-2 c = let g = c .before .before .before .before .before .before .args in lacking-is (lengthsOf (g .n) (g .v) (g .ws .now)) (rule (g .n) (g .count) (g .v) (g .ws .now) (g .pool .now) (g .i)) 0 _ (lacks-token (c .before .before .before .before .before .before .pre .0) (c .before .before .before .before .before .before .args .i) (c .before .before .before .before .before .before .pre .1) _ _ (sym (c .before .a .given .1) ∙ c .before .before .before .resume .ensures))
+returns-2 c = lacking-token (c .before .before .before .before .before .before .pre .0) (c .before .before .before .before .before .before .args .i) (c .before .before .before .before .before .before .pre .1) _ _ _ (c .before .before .before .resume .ensures) (c .before .a .given .1)
 
 returns-3 : tie.Need-returns-3
 returns-3 c = absurd (lacks-sum (c .before .before .before .before .before .before .pre .0) (c .before .before .before .before .before .before .args .i) (c .before .before .before .before .before .before .pre .1) (c .before .before .before .before .before .before .pre .2) _ (sym (c .before .a2 .given .1) ∙ c .before .before .before .resume .ensures))
