@@ -223,9 +223,9 @@ Made in `host/` by
 
     cargo run --release -p bench -- write
 
-Upstream's Rust and the proved reader in one process, both x86-64, on the same texts, all built for release; processor{}. The
-three take turns, and of each the best turn counts. Times are in microseconds and say little on another machine; the ratios
-should hold.
+Upstream's Rust and the proved reader in one process, both x86-64, on the same texts, all built for release. The three take
+turns, and of each the best turn counts. Times are in microseconds and say little on another machine; the ratios should hold.
+Processor{}.
 
 - Rust: upstream's `PkgConfig::parse`, and dropping what it gives.
 - reader: `cabbagelute_read_in` alone. Its buffers were made once and are not cleared between calls.
