@@ -9,7 +9,7 @@ use tokens::TokenKind;
 use tokens::kind_at;
 
 // The first of the `count` tokens from token j on that is no blank.
-pub fn skip_blanks(ws: &[u32], count: usize, j: usize) -> usize
+fn skip_blanks(ws: &[u32], count: usize, j: usize) -> usize
     requires { ⌜ 4 * count ≤ length (now ws) ⌝ }
     ensures { λ r. ⌜ Skips count j (now (ws .entry)) r ⌝ }
 {

@@ -2,25 +2,23 @@
 use Prim.Native.Nat.{ℕ, zero, suc, _+_, _*_, _-_, _<_, _≤_}
 use mathlib.Core.Path.{_≡_, refl, sym, _∙_, ap, subst}
 use mathlib.Core.Bool.{Bool, true, false}
-use mathlib.Core.List.{List, [], _∷_, _++_, append-assoc, append-nil}
+use mathlib.Core.List.{List, [], _++_, append-assoc, append-nil}
 use native.Mathlib.Omega.{arith}
-use lib.ListN.{length, getD, take, drop, replicate, length-append}
+use lib.ListN.{length, getD, take, replicate, length-append}
 use borrow.Author.Tests.{le-leb, lt-leb, leb-true, leb-false}
 use Rattle.rules.specs.Bytes.{toLittle, pick, overwrite}
 use Rattle.rules.specs.Lines.{isString}
-use Rattle.rules.specs.Variables.{limit, Expansion, expand}
-use Rattle.rules.specs.Fields.{Content, single, many, Present}
+use Rattle.rules.specs.Variables.{limit, Expansion}
 use Rattle.rules.specs.Records.{recordBytes, argumentRecords, recordsOf, records}
 use Rattle.rules.proofs.ExpandLaws.{View, view}
 use Rattle.scan.specs.Stores.{puts}
 use Rattle.scan.proofs.Stores.{length-puts, puts-puts, puts-front}
 use Rattle.scan.proofs.Littles.{length-little}
-use Rattle.workspace.specs.Map.{Room}
 use Rattle.writer.specs.Tables.{Tables, tablesIn, pieces, valueBetween}
-use Rattle.writer.specs.Writing.{Ready, Remembered, Apart, Written}
+use Rattle.writer.specs.Writing.{Remembered, Apart, Written}
 use Rattle.writer.proofs.Places.{apart-none, apart-more}
 use Rattle.writer.proofs.Pieces.{tables-same, room-same}
-use Rattle.writer.proofs.Uses.{fresh, fresh-apart, none-written, and-then}
+use Rattle.writer.proofs.Uses.{fresh, fresh-apart, none-written}
 use Rattle.records.specs.Contents.{fieldsOf, valuesFrom, contentAt, presentAt, presents, Valued, Listed, Fielded}
 use Rattle.records.specs.Recording.{listBytes, entryBytes, Standing, Fieldable, Recorded}
 use Rattle.records.proofs.Lists.{record-long}

@@ -1,26 +1,24 @@
 -- Laws of records, and of the loop over arguments. Assumes nothing.
-use Prim.Native.Nat.{ℕ, zero, suc, _+_, _*_, _-_, _<_, _≤_}
+use Prim.Native.Nat.{ℕ, suc, _+_, _*_, _-_, _<_, _≤_}
 use mathlib.Core.Path.{_≡_, refl, sym, _∙_, ap, subst}
-use mathlib.Core.List.{List, [], _∷_, _++_, append-assoc, append-nil}
+use mathlib.Core.List.{List, [], _++_, append-assoc, append-nil}
 use native.Mathlib.Nat.{add-zero, sub-zero}
 use native.Mathlib.Omega.{arith}
 use lib.ListN.{length, getD, take, drop, length-append}
 use Rattle.rules.specs.Bytes.{toLittle}
-use Rattle.rules.specs.Variables.{Piece, Expansion, value, expand}
-use Rattle.rules.specs.Records.{recordBytes, argumentKind, argumentRecords}
-use Rattle.rules.proofs.Lengths.{Sum, add, add-is, sumOf, entries}
+use Rattle.rules.specs.Records.{recordBytes, argumentRecords}
+use Rattle.rules.proofs.Lengths.{Sum, add, add-is, sumOf}
 use Rattle.scan.specs.Stores.{puts}
 use Rattle.scan.proofs.Stores.{length-puts, puts-puts}
 use Rattle.scan.proofs.Littles.{length-little}
 use Rattle.tokens.specs.Entries.{decode}
 use Rattle.workspace.specs.Map.{Room, ranksOf, lengthsOf, piecesBetween}
-use Rattle.workspace.proofs.Links.{keys-length}
-use Rattle.passes.specs.Sums.{top, sizeAt, advance}
+use Rattle.passes.specs.Sums.{sizeAt, advance}
 use Rattle.passes.specs.declared.sums.Advance.{Advance}
 use Rattle.passes.specs.declared.sums.Advance.the-variants as Adv
 use Rattle.passes.proofs.Advances.{Advances, advances}
 use Rattle.writer.specs.Tables.{Tables, tablesIn, pieces, valueBetween}
-use Rattle.writer.specs.Writing.{Ready, Remembered, Apart, Writable, Written}
+use Rattle.writer.specs.Writing.{Ready, Writable, Written}
 use Rattle.writer.proofs.Pieces.{tables-same, room-same}
 use Rattle.writer.proofs.Uses.{none-written, bytes-written, and-then, expanded}
 use Rattle.records.specs.Contents.{valuesFrom, Valued, Listed}

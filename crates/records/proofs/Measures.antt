@@ -3,23 +3,19 @@ use Prim.Native.Nat.{ℕ, zero, suc, _+_, _*_, _-_, _≤_, _<_}
 use mathlib.Core.Path.{_≡_, refl, sym, _∙_, ap}
 use mathlib.Core.Bool.{Bool, true, false}
 use mathlib.Core.List.{List}
-use native.Mathlib.Nat.{add-zero}
-use native.Mathlib.Numerals.{add-one}
 use native.Mathlib.Decide.{decLt}
 use native.Mathlib.Omega.{arith}
 use lib.ListN.{getD, take, drop}
-use lib.Seq.{getD-take, getD-drop}
 use borrow.Author.Tests.{le-leb, lt-leb}
 use Rattle.rules.specs.Bytes.{pick}
 use Rattle.rules.specs.Lines.{isString}
 use Rattle.scan.proofs.Lists.{cell-in, cell-past}
 use Rattle.tokens.specs.Entries.{decode}
-use Rattle.workspace.specs.Map.{startsOf, endsOf, ranksOf, lengthsOf}
+use Rattle.workspace.specs.Map.{ranksOf, lengthsOf}
 use Rattle.passes.specs.Sums.{top, sizeAt, advance}
 use Rattle.passes.specs.declared.sums.Advance.{Advance}
 use Rattle.passes.specs.declared.sums.Advance.the-variants as Adv
 use Rattle.passes.proofs.Advances.{advances}
-use Rattle.records.specs.Contents.{fieldsOf}
 use Rattle.records.specs.Measuring.{onSum, onNeed, summed, sumOfRow, measureRows, measureEntry, measureFields}
 use Rattle.records.specs.declared.measure.Measured.{Measured}
 use Rattle.records.specs.declared.measure.Measured.the-variants.{Need, Undefined, TooLarge}

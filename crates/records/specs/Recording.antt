@@ -1,7 +1,7 @@
 -- What the writers of records need, and what they do. Assumes nothing.
 use Prim.Native.Nat.{ℕ, zero, suc, _+_, _≤_, _<_}
 use mathlib.Core.Path.{_≡_}
-use mathlib.Core.List.{List, [], _∷_, _++_}
+use mathlib.Core.List.{List, [], _++_}
 use lib.ListN.{length}
 use Rattle.rules.specs.Bytes.{toLittle}
 use Rattle.rules.specs.Records.{recordBytes, argumentRecords, recordsOf, records}
@@ -9,7 +9,7 @@ use Rattle.scan.specs.Stores.{puts}
 use Rattle.workspace.specs.Map.{Room}
 use Rattle.writer.specs.Tables.{Tables}
 use Rattle.writer.specs.Writing.{Ready, Remembered, Apart}
-use Rattle.records.specs.Contents.{valuesFrom, contentAt, presents, Valued, Listed, Fielded}
+use Rattle.records.specs.Contents.{valuesFrom, contentAt, presents, Fielded}
 
 -- a record's head: the payload's length, and the kind
 abbrev pub head : ℕ → ℕ → List ℕ

@@ -1,48 +1,37 @@
 -- Laws of the tables: they stay where only the scratch is written; a token and the piece that it is; the names that pieces refer to. Assumes nothing.
-use Prim.Native.Nat.{ℕ, zero, suc, _+_, _*_, _-_, _<_, _≤_}
-use mathlib.Core.Path.{_≡_, refl, sym, _∙_, ap}
-use mathlib.Core.Bool.{Bool, true, false}
-use mathlib.Core.List.{List, [], _∷_, _++_}
+use Prim.Native.Nat.{ℕ, suc, _+_, _*_, _-_, _<_, _≤_}
+use mathlib.Core.Path.{_≡_, refl, _∙_, ap}
+use mathlib.Core.List.{List, [], _∷_}
 use native.Mathlib.Nat.{add-zero}
 use native.Mathlib.Omega.{arith}
 use native.Mathlib.Numerals.{add-one}
-use lib.ListN.{length, getD, take, drop, length-take, length-drop}
-use lib.Seq.{take-take, take-nil, drop-cons, drop-drop, getD-take, getD-drop}
+use lib.ListN.{length, getD, take, drop}
+use lib.Seq.{drop-cons, drop-drop, getD-drop}
 use borrow.Author.Tests.{eq-eqb, ne-eqb}
 use Rattle.rules.specs.Bytes.{pick}
-use Rattle.rules.specs.Tokens.{Token, isA, Variable, noName}
-use Rattle.rules.specs.Variables.{Piece, Found, foundAt, resolve}
-use Rattle.tokens.specs.Entries.{decode, tokenAt}
-use Rattle.tokens.proofs.TokenLaws.{decode-same}
+use Rattle.rules.specs.Tokens.{isA, noName}
+use Rattle.rules.specs.Variables.{Piece}
+use Rattle.tokens.specs.Entries.{tokenAt}
+use Rattle.workspace.proofs.Frames.{take-low, column-low, decode-low, Kept}
 use Rattle.workspace.specs.Map.{Dropped, piecesOf, pieceOf, rulesIn, Room}
-use Rattle.writer.specs.Tables.{Tables, tablesIn, valuesOf, startOf, endOf, pieces, value, joined}
-use Rattle.writer.specs.Writing.{Known, Apart, Ready}
-
--- two lists that are the same up to m have the same parts there
-part-take : (p n : ℕ) (l : List ℕ) → take n (drop p l) ≡ drop p (take (p + n) l)
-part-take zero n l = let e : 0 + n ≡ n = omega arith in rw e
-part-take (suc p) n [] = let e : suc p + n ≡ suc (p + n) = omega arith in rw (take-nil n, e)
-part-take (suc p) n (x ∷ l) = let e : suc p + n ≡ suc (p + n) = omega arith in rw e (part-take p n l)
-
-pub part-same : (l l′ : List ℕ) (m p n : ℕ) → p + n ≤ m → take m l ≡ take m l′ → take n (drop p l) ≡ take n (drop p l′)
-part-same l l′ m p n h e = part-take p n l ∙ ap (drop p) (shorter l ∙ ap (take (p + n)) e ∙ sym (shorter l′)) ∙ sym (part-take p n l′)
-  where
-    shorter : (x : List ℕ) → take (p + n) x ≡ take (p + n) (take m x)
-    shorter x = sym (take-take (p + n) m x h)
+use Rattle.writer.specs.Tables.{Tables, tablesIn, startOf, endOf, pieces, value, joined}
+use Rattle.writer.specs.Writing.{Known, Apart}
 
 -- THE FRAME: what the writer reads stays, where only the scratch is written
 pub tables-same : (n count v : ℕ) (ws ws′ pool : List ℕ) → Room n count v ws → Apart n ws ws′ → tablesIn n count v ws′ pool ≡ tablesIn n count v ws pool
 unfolding rulesIn
 tables-same n count v ws ws′ pool r a =
-    let d : decode count ws′ pool ≡ decode count ws pool =
-    decode-same count ws ws′ pool
-    (λ k l. sym (getD-take (9 * n) ws′ k 0 (omega (arith, r .tokens))) ∙ ap (λ (x : List ℕ). getD x k 0) (a .before) ∙ getD-take (9 * n) ws k 0 (omega (arith, r .tokens))) in
-    let k4 : take v (drop (4 * n) ws′) ≡ take v (drop (4 * n) ws) = part-same ws′ ws (9 * n) (4 * n) v (omega (arith, r .tokens, r .few)) (a .before) in
-    let k5 : take n (drop (5 * n) ws′) ≡ take n (drop (5 * n) ws) = part-same ws′ ws (9 * n) (5 * n) n (omega arith) (a .before) in
-    let k6 : take n (drop (6 * n) ws′) ≡ take n (drop (6 * n) ws) = part-same ws′ ws (9 * n) (6 * n) n (omega arith) (a .before) in
-    let k7 : take n (drop (7 * n) ws′) ≡ take n (drop (7 * n) ws) = part-same ws′ ws (9 * n) (7 * n) n (omega arith) (a .before) in
-    let k8 : take v (drop (8 * n) ws′) ≡ take v (drop (8 * n) ws) = part-same ws′ ws (9 * n) (8 * n) v (omega (arith, r .tokens, r .few)) (a .before) in
+    let d = decode-low (9 * n) ws ws′ (a .before) count pool (omega (arith, r .tokens)) in
+    let k4 = column-low (9 * n) ws ws′ (a .before) v (4 * n) (omega (arith, r .tokens, r .few)) in
+    let k5 = column-low (9 * n) ws ws′ (a .before) n (5 * n) (omega arith) in
+    let k6 = column-low (9 * n) ws ws′ (a .before) n (6 * n) (omega arith) in
+    let k7 = column-low (9 * n) ws ws′ (a .before) n (7 * n) (omega arith) in
+    let k8 = column-low (9 * n) ws ws′ (a .before) v (8 * n) (omega (arith, r .tokens, r .few)) in
     rw (d, k4, k5, k6, k7, k8)
+
+-- and so does all that rests on the map
+pub apart-kept : {n : ℕ} {ws ws′ : List ℕ} → Apart n ws ws′ → Kept n ws ws′
+apart-kept {n} {ws} {ws′} a = record { low = take-low (9 * n) ws ws′ (a .before) (8 * n) (omega arith); high = a .past }
 
 pub room-same : {n count v : ℕ} {ws ws′ : List ℕ} → Room n count v ws → Apart n ws ws′ → Room n count v ws′
 room-same r a = record { small = r .small; room = omega (arith, r .room, a .long); tokens = r .tokens; few = r .few }

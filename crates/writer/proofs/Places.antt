@@ -1,13 +1,14 @@
 -- Laws of the remembered places, and of the scratch. Assumes nothing.
 use Prim.Native.Nat.{ℕ, _+_, _*_, _-_, _/_, _%_, _≤_, _<_}
-use mathlib.Core.Path.{_≡_, refl, sym, _∙_, ap}
+use mathlib.Core.Path.{_≡_, refl, _∙_}
 use mathlib.Core.List.{List, [], _∷_, _++_, append-assoc}
 use native.Mathlib.Nat.{div-add-mod'}
 use native.Mathlib.Omega.{arith}
 use lib.ListN.{length, getD, take, drop, set, replicate, length-set, length-replicate, getD-replicate}
-use lib.Seq.{take-at, take-take, getD-take, getD-set-same, getD-set-other}
+use lib.Seq.{take-at, getD-set-same, getD-set-other}
 use Rattle.scan.specs.Stores.{puts}
 use Rattle.scan.proofs.Stores.{length-puts, take-puts, drop-puts, getD-puts-below, getD-stored, drop-stored}
+use Rattle.workspace.specs.Map.{Room}
 use Rattle.writer.specs.Writing.{placeIn, Apart}
 
 -- what was stored first stands there
@@ -50,6 +51,10 @@ forgotten n ws v j h q =
       getD-replicate {A = ℕ} (2 * v) (2 * j) 0 0 (omega arith),
       getD-replicate {A = ℕ} (2 * v) (2 * j + 1) 0 0 (omega arith),
     )
+
+-- the scratch suffices: a frame for each name at once beside all places
+pub scratch-fits : {n count v : ℕ} {ws : List ℕ} → Room n count v ws → 9 * n + 2 * v + 3 * v ≤ 12 * n
+scratch-fits r = omega (arith, r .few, r .tokens)
 
 -- the workspace but for the scratch
 pub apart-none : (n : ℕ) (ws : List ℕ) → Apart n ws ws

@@ -1,11 +1,11 @@
 -- Tables whose variables resolve have a numbering, and each value is its pieces joined. Assumes nothing.
-use Prim.Native.Nat.{ℕ, zero, suc, _+_, _*_, _<_, _≤_}
-use mathlib.Core.Path.{_≡_, refl, sym, _∙_, ap, ap₂}
+use Prim.Native.Nat.{ℕ, zero, suc, _+_, _*_, _<_}
+use mathlib.Core.Path.{_≡_, refl, _∙_, ap, ap₂}
 use mathlib.Core.List.{List, [], _∷_, _++_, map}
-use mathlib.Core.Option.{Option, none, some}
+use mathlib.Core.Option.{none}
 use native.Mathlib.Omega.{arith}
-use lib.ListN.{length, getD, take, drop, length-take, length-drop, length-map, List·getD-map}
-use Rattle.rules.specs.Variables.{Piece, foundAt, resolved, resolve}
+use lib.ListN.{length, getD, drop, length-take, length-drop, length-map, List·getD-map}
+use Rattle.rules.specs.Variables.{Piece, resolved}
 use Rattle.rules.proofs.Lengths.{entry, entries}
 use Rattle.rules.proofs.Ranks.{Joined, Refers, here, there, HasAll, Says}
 use Rattle.rules.proofs.RanksLaws.{joined-one}
@@ -13,7 +13,6 @@ use Rattle.rules.proofs.ResolveLaws.{resolve-says, numbered}
 use Rattle.rules.proofs.WriterLaws.{bounded}
 use Rattle.scan.specs.Stores.{puts}
 use Rattle.tokens.proofs.TokenLaws.{length-decode}
-use Rattle.workspace.specs.Map.{Room}
 use Rattle.writer.specs.Tables.{Tables, tablesIn, startOf, endOf, pieces, rules, value, joined, valueBetween}
 use Rattle.writer.specs.Writing.{Ready, Writable}
 use Rattle.writer.proofs.Pieces.{Refs, Sound}

@@ -9,15 +9,39 @@ use native.Mathlib.Decide.{decLt}
 use native.Mathlib.Omega.{arith}
 use lib.Dec.{ltb}
 use lib.ListN.{length, getD, replicate, length-append, length-map, length-replicate, List·getD-eq-default}
-use Rattle.rules.specs.Variables.{Piece, Found, foundAt, resolved, resolve, limit, Expansion, large, missing, bounded, expand}
+use Rattle.rules.specs.Numbers.{InVariable, UndefinedVariable, ContentTooLarge, refused, ok}
+use Rattle.rules.specs.Lines.{Assignment}
+use Rattle.rules.specs.Variables.{Piece, rulesOf, Found, Resolved, tooLarge, lacks, keyAt, resolveVariables, foundAt, resolved, resolve, limit, Expansion, large, missing, bounded, expand}
 use Rattle.rules.proofs.Lengths.{entries}
 use Rattle.scan.specs.Stores.{puts}
 use Rattle.scan.proofs.Stores.{puts-puts, column-before}
-use Rattle.workspace.specs.Map.{Room, keysOf, endsOf, lengthsOf, rulesIn}
-use Rattle.writer.specs.Tables.{Tables, tablesIn, valuesOf, orEmpty, rules, value, joined}
-use Rattle.writer.specs.Writing.{placeIn, Held, Remembered, Known, Ready, Apart, Written}
-use Rattle.writer.proofs.Places.{forgotten, apart-none, apart-more, apart-puts}
+use Rattle.workspace.specs.Map.{Room, keysOf, endsOf, lengthsOf, variablesIn, rulesIn, Looked}
+use Rattle.workspace.proofs.Links.{rules-looked}
+use Rattle.writer.specs.Tables.{Tables, tablesIn, valuesOf, orEmpty, value, joined}
+use Rattle.writer.specs.Writing.{placeIn, Remembered, Known, Ready, Apart, Written}
+use Rattle.writer.proofs.Places.{forgotten, scratch-fits, apart-none, apart-more, apart-puts}
 use Rattle.writer.proofs.Sounds.{has-all}
+
+-- where the variables of the workspace resolve, so do the rules in it
+found-by : (vs : List Assignment) (vals : Found) → resolveVariables vs ≡ ok vals → resolve (rulesOf vs vs) ≡ resolved vals
+unfolding resolveVariables
+found-by vs vals e = go (resolve (rulesOf vs vs)) refl
+  where
+    go : (x : Resolved) → resolve (rulesOf vs vs) ≡ x → x ≡ resolved vals
+    go (tooLarge i) q =
+        let y : refused (ContentTooLarge (InVariable (keyAt vs i))) ≡ ok vals = rw (q, resolveVariables) at e in
+        let z : _≡_ {A = ℕ} 0 1 = cc in
+        absurd (omega arith)
+    go (lacks i n) q =
+        let y : refused (UndefinedVariable n (InVariable (keyAt vs i))) ≡ ok vals = rw (q, resolveVariables) at e in
+        let z : _≡_ {A = ℕ} 0 1 = cc in
+        absurd (omega arith)
+    go (resolved w) q = let y : ok w ≡ ok vals = rw (q, resolveVariables) at e in cc
+
+pub found-in : (n count v : ℕ) (ws pool : List ℕ) (vals : Found) → Looked n count ws pool (variablesIn n count v ws pool) → resolveVariables (variablesIn n count v ws pool) ≡ ok vals
+    → resolve (rulesIn n count v ws pool) ≡ resolved vals
+found-in n count v ws pool vals looked e =
+    ap resolve (rules-looked n count ws pool (variablesIn n count v ws pool) looked v) ∙ found-by (variablesIn n count v ws pool) vals e
 
 -- once the passes are done the tables are ready
 module _ (n count v : ℕ) (ws pool : List ℕ) (vals : Found) (found : resolve (rulesIn n count v ws pool) ≡ resolved vals) where
@@ -35,7 +59,7 @@ fresh n v t ws out at h j k p = absurd (omega (arith, forgotten n ws v j h k))
 
 pub fresh-apart : (n count v : ℕ) (ws : List ℕ) → Room n count v ws → Apart n ws (puts ws (9 * n) (replicate (2 * v) 0))
 fresh-apart n count v ws r =
-    apart-puts n ws (9 * n) (replicate (2 * v) 0) (omega arith) (omega (arith, length-replicate {A = ℕ} (2 * v) 0, r .few, r .tokens))
+    apart-puts n ws (9 * n) (replicate (2 * v) 0) (omega arith) (omega (arith, length-replicate {A = ℕ} (2 * v) 0, scratch-fits r))
 
 module _ {n v : ℕ} {t : Tables} {ws out : List ℕ} {at : ℕ} where
   -- bytes from elsewhere, as a record's head

@@ -1,5 +1,5 @@
--- What the writer needs, and what it does. Its scratch are the workspace's entries from 9n up to 12n: two for each name from 9n on, where its value
--- stands in the output; and down from 12n the stack. Assumes nothing.
+-- What the writer needs, and what it does. Its scratch are the workspace's entries from 9n up to 12n: from 9n on two for each name, where its value stands
+-- in the output; and down from 12n the stack, three for each value that is being written. Assumes nothing.
 use Prim.Native.Nat.{ℕ, _+_, _*_, _-_, _≤_, _<_}
 use mathlib.Core.Path.{_≡_}
 use mathlib.Core.List.{List, [], _∷_}

@@ -50,7 +50,16 @@ loop-less : tie.Need-loop-less Inv-loop μ-loop
 loop-less c = let R = c .before .before .before .before .before .before .before .before .before .before .before .loop .inv in let h = c .before .before .before .before .before .before .before .before .before .before .if1 .taken in less-front R h
 
 loop-again : tie.Need-loop-again Inv-loop μ-loop
-loop-again c = let R = c .before .before .before .before .before .before .before .before .before .before .before .loop .inv in let h = c .before .before .before .before .before .before .before .before .before .before .if1 .taken in go-skip R h _ (c .before .before .before .before .before .before .before .before .kind-at .ensures) (c .before .before .before .before .before .before .before .if2 .taken) _ (c .before .before .before .before .before .cell .ensures) _ (c .before .before .before .cell2 .ensures) (c .if3 .taken)
+loop-again c =
+    let at-cell2 = c .before .before .before in
+    let at-cell = at-cell2 .before .before in
+    let at-if2 = at-cell .before .before in
+    let at-kind-at = at-if2 .before in
+    let at-if1 = at-kind-at .before .before in
+    let at-loop = at-if1 .before in
+    let R = at-loop .loop .inv in
+    let h = at-if1 .if1 .taken in
+    go-skip R h _ (at-kind-at .kind-at .ensures) (at-if2 .if2 .taken) _ (at-cell .cell .ensures) _ (at-cell2 .cell2 .ensures) (c .if3 .taken)
 
 mul-cell-3 : tie.Need-mul-cell-3 Inv-loop μ-loop
 mul-cell-3 c = let R = c .before .before .before .before .before .before .before .before .before .before .before .before .before .loop .inv in omega (arith, R .room .small)
@@ -59,13 +68,30 @@ cell-requires-3 : tie.Need-cell-requires-3 Inv-loop μ-loop
 cell-requires-3 c κs = search needs
 
 sub-top : tie.Need-sub-top Inv-loop μ-loop
-sub-top c = let R = c .before .before .before .before .before .before .before .before .before .before .before .before .before .before .loop .inv in let h = c .before .before .before .before .before .before .before .before .before .before .before .before .before .if1 .taken in omega (arith, three-more R h _ (c .before .before .before .before .before .before .before .before .before .before .before .kind-at .ensures) (c .before .before .before .before .before .before .before .before .before .before .if2 .taken) _ (c .before .before .before .before .before .before .before .before .cell .ensures))
+sub-top c =
+    let at-cell = c .before .before .before .before .before .before .before .before in
+    let at-if2 = at-cell .before .before in
+    let at-kind-at = at-if2 .before in
+    let at-if1 = at-kind-at .before .before in
+    let at-loop = at-if1 .before in
+    let R = at-loop .loop .inv in
+    let h = at-if1 .if1 .taken in
+    omega (arith, three-more R h _ (at-kind-at .kind-at .ensures) (at-if2 .if2 .taken) _ (at-cell .cell .ensures))
 
 add-push : tie.Need-add-push Inv-loop μ-loop
 add-push c = let R = c .before .before .before .before .before .before .before .before .before .before .before .before .before .before .before .loop .inv in let h = c .before .before .before .before .before .before .before .before .before .before .before .before .before .before .if1 .taken in omega (arith, index-small R h)
 
 push-requires : tie.Need-push-requires Inv-loop μ-loop
-push-requires c κs = let R = c .before .before .before .before .before .before .before .before .before .before .before .before .before .before .before .loop .inv in let h = c .before .before .before .before .before .before .before .before .before .before .before .before .before .before .if1 .taken in let f = frame-small R h in (omega (arith, three-more R h _ (c .before .before .before .before .before .before .before .before .before .before .before .before .kind-at .ensures) (c .before .before .before .before .before .before .before .before .before .before .before .if2 .taken) _ (c .before .before .before .before .before .before .before .before .before .cell .ensures), R .within, R .room .room), f .0, f .1, f .2)
+push-requires c κs =
+    let at-cell = c .before .before .before .before .before .before .before .before .before in
+    let at-if2 = at-cell .before .before in
+    let at-kind-at = at-if2 .before in
+    let at-if1 = at-kind-at .before .before in
+    let at-loop = at-if1 .before in
+    let R = at-loop .loop .inv in
+    let h = at-if1 .if1 .taken in
+    let f = frame-small R h in
+    (omega (arith, three-more R h _ (at-kind-at .kind-at .ensures) (at-if2 .if2 .taken) _ (at-cell .cell .ensures), R .within, R .room .room), f .0, f .1, f .2)
 
 mul-cell-4 : tie.Need-mul-cell-4 Inv-loop μ-loop
 mul-cell-4 c = let R = c .before .before .before .before .before .before .before .before .before .before .before .before .before .before .before .before .before .before .before .loop .inv in omega (arith, R .room .small)
@@ -80,25 +106,93 @@ cell-requires-5 : tie.Need-cell-requires-5 Inv-loop μ-loop
 cell-requires-5 c κs = search needs
 
 loop-less-2 : tie.Need-loop-less-2 Inv-loop μ-loop
-loop-less-2 c = let R = c .before .before .before .before .before .before .before .before .before .before .before .before .before .before .before .before .before .before .before .before .before .before .loop .inv in let h = c .before .before .before .before .before .before .before .before .before .before .before .before .before .before .before .before .before .before .before .before .before .if1 .taken in less-entered R h _ (c .before .before .before .before .before .before .before .before .before .before .before .before .before .before .before .before .before .before .before .kind-at .ensures) (c .before .before .before .before .before .before .before .before .before .before .before .before .before .before .before .before .before .before .if2 .taken) _ (c .before .before .before .before .before .before .before .before .before .before .before .before .before .before .before .before .cell .ensures) _ (c .before .before .before .before .before .before .before .before .cell3 .ensures) _ (c .before .before .before .before .before .before .push .ensures) _ _ (c .before .before .cell4 .ensures) (c .cell5 .ensures) _ (c .before .before .before .before .before .before .before .before .before .before .before .before .place .ensures) (c .before .before .before .before .before .before .before .before .before .before .if4 .taken)
+loop-less-2 c =
+    let at-cell4 = c .before .before in
+    let at-push = at-cell4 .before .before .before .before in
+    let at-cell3 = at-push .before .before in
+    let at-if4 = at-cell3 .before .before in
+    let at-place = at-if4 .before .before in
+    let at-cell = at-place .before .before .before .before in
+    let at-if2 = at-cell .before .before in
+    let at-kind-at = at-if2 .before in
+    let at-if1 = at-kind-at .before .before in
+    let at-loop = at-if1 .before in
+    let R = at-loop .loop .inv in
+    let h = at-if1 .if1 .taken in
+    less-entered R h _ (at-kind-at .kind-at .ensures) (at-if2 .if2 .taken) _ (at-cell .cell .ensures) _ (at-cell3 .cell3 .ensures) _ (at-push .push .ensures) _ _ (at-cell4 .cell4 .ensures) (c .cell5 .ensures) _ (at-place .place .ensures) (at-if4 .if4 .taken)
 
 loop-again-2 : tie.Need-loop-again-2 Inv-loop μ-loop
-loop-again-2 c = let R = c .before .before .before .before .before .before .before .before .before .before .before .before .before .before .before .before .before .before .before .before .before .before .loop .inv in let h = c .before .before .before .before .before .before .before .before .before .before .before .before .before .before .before .before .before .before .before .before .before .if1 .taken in go-entered R h _ (c .before .before .before .before .before .before .before .before .before .before .before .before .before .before .before .before .before .before .before .kind-at .ensures) (c .before .before .before .before .before .before .before .before .before .before .before .before .before .before .before .before .before .before .if2 .taken) _ (c .before .before .before .before .before .before .before .before .before .before .before .before .before .before .before .before .cell .ensures) _ (c .before .before .before .before .before .before .before .before .cell3 .ensures) _ (c .before .before .before .before .before .before .push .ensures) _ _ (c .before .before .cell4 .ensures) (c .cell5 .ensures)
+loop-again-2 c =
+    let at-cell4 = c .before .before in
+    let at-push = at-cell4 .before .before .before .before in
+    let at-cell3 = at-push .before .before in
+    let at-cell = at-cell3 .before .before .before .before .before .before .before .before in
+    let at-if2 = at-cell .before .before in
+    let at-kind-at = at-if2 .before in
+    let at-if1 = at-kind-at .before .before in
+    let at-loop = at-if1 .before in
+    let R = at-loop .loop .inv in
+    let h = at-if1 .if1 .taken in
+    go-entered R h _ (at-kind-at .kind-at .ensures) (at-if2 .if2 .taken) _ (at-cell .cell .ensures) _ (at-cell3 .cell3 .ensures) _ (at-push .push .ensures) _ _ (at-cell4 .cell4 .ensures) (c .cell5 .ensures)
 
 sub-copy-within : tie.Need-sub-copy-within Inv-loop μ-loop
 sub-copy-within c = omega (arith, c .before .if4 .left)
 
 sub-copy-within-2 : tie.Need-sub-copy-within-2 Inv-loop μ-loop
-sub-copy-within-2 c = let R = c .before .before .before .before .before .before .before .before .before .before .before .before .before .loop .inv in let h = c .before .before .before .before .before .before .before .before .before .before .before .before .if1 .taken in omega (arith, copy-more R h _ (c .before .before .before .before .before .before .before .before .before .before .kind-at .ensures) (c .before .before .before .before .before .before .before .before .before .if2 .taken) _ (c .before .before .before .before .before .before .before .cell .ensures) _ (c .before .before .before .before .before .cell2 .ensures) _ (c .before .before .before .place .ensures) (c .before .if4 .left))
+sub-copy-within-2 c =
+    let at-if4 = c .before in
+    let at-place = at-if4 .before .before in
+    let at-cell2 = at-place .before .before in
+    let at-cell = at-cell2 .before .before in
+    let at-if2 = at-cell .before .before in
+    let at-kind-at = at-if2 .before in
+    let at-if1 = at-kind-at .before .before in
+    let at-loop = at-if1 .before in
+    let R = at-loop .loop .inv in
+    let h = at-if1 .if1 .taken in
+    omega (arith, copy-more R h _ (at-kind-at .kind-at .ensures) (at-if2 .if2 .taken) _ (at-cell .cell .ensures) _ (at-cell2 .cell2 .ensures) _ (at-place .place .ensures) (at-if4 .if4 .left))
 
 copy-within-requires : tie.Need-copy-within-requires Inv-loop μ-loop
-copy-within-requires c κs = let R = c .before .before .before .before .before .before .before .before .before .before .before .before .before .loop .inv in let h = c .before .before .before .before .before .before .before .before .before .before .before .before .if1 .taken in copy-fits R h _ (c .before .before .before .before .before .before .before .before .before .before .kind-at .ensures) (c .before .before .before .before .before .before .before .before .before .if2 .taken) _ (c .before .before .before .before .before .before .before .cell .ensures) _ (c .before .before .before .before .before .cell2 .ensures) _ (c .before .before .before .place .ensures) (c .before .if4 .left)
+copy-within-requires c κs =
+    let at-if4 = c .before in
+    let at-place = at-if4 .before .before in
+    let at-cell2 = at-place .before .before in
+    let at-cell = at-cell2 .before .before in
+    let at-if2 = at-cell .before .before in
+    let at-kind-at = at-if2 .before in
+    let at-if1 = at-kind-at .before .before in
+    let at-loop = at-if1 .before in
+    let R = at-loop .loop .inv in
+    let h = at-if1 .if1 .taken in
+    copy-fits R h _ (at-kind-at .kind-at .ensures) (at-if2 .if2 .taken) _ (at-cell .cell .ensures) _ (at-cell2 .cell2 .ensures) _ (at-place .place .ensures) (at-if4 .if4 .left)
 
 sub-p : tie.Need-sub-p Inv-loop μ-loop
-sub-p c = let R = c .before .before .before .before .before .before .before .before .before .before .before .before .before .before .before .before .loop .inv in let h = c .before .before .before .before .before .before .before .before .before .before .before .before .before .before .before .if1 .taken in omega (arith, copy-more R h _ (c .before .before .before .before .before .before .before .before .before .before .before .before .before .kind-at .ensures) (c .before .before .before .before .before .before .before .before .before .before .before .before .if2 .taken) _ (c .before .before .before .before .before .before .before .before .before .before .cell .ensures) _ (c .before .before .before .before .before .before .before .before .cell2 .ensures) _ (c .before .before .before .before .before .before .place .ensures) (c .before .before .before .before .if4 .left))
+sub-p c =
+    let at-if4 = c .before .before .before .before in
+    let at-place = at-if4 .before .before in
+    let at-cell2 = at-place .before .before in
+    let at-cell = at-cell2 .before .before in
+    let at-if2 = at-cell .before .before in
+    let at-kind-at = at-if2 .before in
+    let at-if1 = at-kind-at .before .before in
+    let at-loop = at-if1 .before in
+    let R = at-loop .loop .inv in
+    let h = at-if1 .if1 .taken in
+    omega (arith, copy-more R h _ (at-kind-at .kind-at .ensures) (at-if2 .if2 .taken) _ (at-cell .cell .ensures) _ (at-cell2 .cell2 .ensures) _ (at-place .place .ensures) (at-if4 .if4 .left))
 
 add-p : tie.Need-add-p Inv-loop μ-loop
-add-p c = let R = c .before .before .before .before .before .before .before .before .before .before .before .before .before .before .before .before .loop .inv in let h = c .before .before .before .before .before .before .before .before .before .before .before .before .before .before .before .if1 .taken in omega (arith, copy-more R h _ (c .before .before .before .before .before .before .before .before .before .before .before .before .before .kind-at .ensures) (c .before .before .before .before .before .before .before .before .before .before .before .before .if2 .taken) _ (c .before .before .before .before .before .before .before .before .before .before .cell .ensures) _ (c .before .before .before .before .before .before .before .before .cell2 .ensures) _ (c .before .before .before .before .before .before .place .ensures) (c .before .before .before .before .if4 .left))
+add-p c =
+    let at-if4 = c .before .before .before .before in
+    let at-place = at-if4 .before .before in
+    let at-cell2 = at-place .before .before in
+    let at-cell = at-cell2 .before .before in
+    let at-if2 = at-cell .before .before in
+    let at-kind-at = at-if2 .before in
+    let at-if1 = at-kind-at .before .before in
+    let at-loop = at-if1 .before in
+    let R = at-loop .loop .inv in
+    let h = at-if1 .if1 .taken in
+    omega (arith, copy-more R h _ (at-kind-at .kind-at .ensures) (at-if2 .if2 .taken) _ (at-cell .cell .ensures) _ (at-cell2 .cell2 .ensures) _ (at-place .place .ensures) (at-if4 .if4 .left))
 
 add-next-2 : tie.Need-add-next-2 Inv-loop μ-loop
 add-next-2 c = let R = c .before .before .before .before .before .before .before .before .before .before .before .before .before .before .before .before .loop .inv in let h = c .before .before .before .before .before .before .before .before .before .before .before .before .before .before .before .if1 .taken in omega (arith, index-small R h)
@@ -107,7 +201,19 @@ loop-less-3 : tie.Need-loop-less-3 Inv-loop μ-loop
 loop-less-3 c = let R = c .before .before .before .before .before .before .before .before .before .before .before .before .before .before .before .before .loop .inv in let h = c .before .before .before .before .before .before .before .before .before .before .before .before .before .before .before .if1 .taken in less-front R h
 
 loop-again-3 : tie.Need-loop-again-3 Inv-loop μ-loop
-loop-again-3 c = let R = c .before .before .before .before .before .before .before .before .before .before .before .before .before .before .before .before .loop .inv in let h = c .before .before .before .before .before .before .before .before .before .before .before .before .before .before .before .if1 .taken in go-copy R h _ (c .before .before .before .before .before .before .before .before .before .before .before .before .before .kind-at .ensures) (c .before .before .before .before .before .before .before .before .before .before .before .before .if2 .taken) _ (c .before .before .before .before .before .before .before .before .before .before .cell .ensures) _ (c .before .before .before .before .before .before .before .before .cell2 .ensures) _ (c .before .before .before .before .before .before .place .ensures) (c .before .before .before .before .if4 .left) _ (c .before .before .copy-within .ensures)
+loop-again-3 c =
+    let at-copy-within = c .before .before in
+    let at-if4 = at-copy-within .before .before in
+    let at-place = at-if4 .before .before in
+    let at-cell2 = at-place .before .before in
+    let at-cell = at-cell2 .before .before in
+    let at-if2 = at-cell .before .before in
+    let at-kind-at = at-if2 .before in
+    let at-if1 = at-kind-at .before .before in
+    let at-loop = at-if1 .before in
+    let R = at-loop .loop .inv in
+    let h = at-if1 .if1 .taken in
+    go-copy R h _ (at-kind-at .kind-at .ensures) (at-if2 .if2 .taken) _ (at-cell .cell .ensures) _ (at-cell2 .cell2 .ensures) _ (at-place .place .ensures) (at-if4 .if4 .left) _ (at-copy-within .copy-within .ensures)
 
 add-next-3 : tie.Need-add-next-3 Inv-loop μ-loop
 add-next-3 c = let R = c .before .before .before .before .before .loop .inv in let h = c .before .before .before .before .if1 .taken in omega (arith, index-small R h)
@@ -128,7 +234,16 @@ loop-less-5 : tie.Need-loop-less-5 Inv-loop μ-loop
 loop-less-5 c = let R = c .before .before .before .before .before .before .before .before .before .before .loop .inv in let h = c .before .before .before .before .before .before .before .before .before .if1 .taken in less-front R h
 
 loop-again-5 : tie.Need-loop-again-5 Inv-loop μ-loop
-loop-again-5 c = let R = c .before .before .before .before .before .before .before .before .before .before .loop .inv in let h = c .before .before .before .before .before .before .before .before .before .if1 .taken in go-text R h _ (c .before .before .before .before .before .before .before .kind-at .ensures) (c .before .before .before .before .before .before .if2 .left) (c .before .before .before .before .before .if5 .left) _ _ (c .before .before .copy-text .ensures)
+loop-again-5 c =
+    let at-copy-text = c .before .before in
+    let at-if5 = at-copy-text .before .before .before in
+    let at-if2 = at-if5 .before in
+    let at-kind-at = at-if2 .before in
+    let at-if1 = at-kind-at .before .before in
+    let at-loop = at-if1 .before in
+    let R = at-loop .loop .inv in
+    let h = at-if1 .if1 .taken in
+    go-text R h _ (at-kind-at .kind-at .ensures) (at-if2 .if2 .left) (at-if5 .if5 .left) _ _ (at-copy-text .copy-text .ensures)
 
 same-length : tie.Need-same-length Inv-loop μ-loop
 same-length c = let R = c .before .before .loop .inv in R .apart .long
@@ -164,13 +279,39 @@ cell-requires-9 : tie.Need-cell-requires-9 Inv-loop μ-loop
 cell-requires-9 c κs = search needs
 
 add-top : tie.Need-add-top Inv-loop μ-loop
-add-top c = let R = c .before .before .before .before .before .before .before .before .before .before .before .before .before .before .loop .inv in let h = c .before .before .before .before .before .before .before .before .before .before .before .before .before .if1 .left in omega (arith, frame-in R h (c .before .before .before .before .before .before .before .before .before .before .before .before .if6 .left), R .room .small)
+add-top c =
+    let at-if6 = c .before .before .before .before .before .before .before .before .before .before .before .before in
+    let at-if1 = at-if6 .before in
+    let at-loop = at-if1 .before in
+    let R = at-loop .loop .inv in
+    let h = at-if1 .if1 .left in
+    omega (arith, frame-in R h (at-if6 .if6 .left), R .room .small)
 
 loop-less-6 : tie.Need-loop-less-6 Inv-loop μ-loop
-loop-less-6 c = let R = c .before .before .before .before .before .before .before .before .before .before .before .before .before .before .loop .inv in let h = c .before .before .before .before .before .before .before .before .before .before .before .before .before .if1 .left in less-pop R h (c .before .before .before .before .before .before .before .before .before .before .before .before .if6 .left) _ (c .before .before .before .before .before .before .before .before .before .before .cell6 .ensures) _ (c .before .before .before .before .before .before .before .before .remember .ensures) _ _ _ (c .before .before .before .before .cell7 .ensures) (c .before .before .cell8 .ensures) (c .cell9 .ensures)
+loop-less-6 c =
+    let at-cell8 = c .before .before in
+    let at-cell7 = at-cell8 .before .before in
+    let at-remember = at-cell7 .before .before .before .before in
+    let at-cell6 = at-remember .before .before in
+    let at-if6 = at-cell6 .before .before in
+    let at-if1 = at-if6 .before in
+    let at-loop = at-if1 .before in
+    let R = at-loop .loop .inv in
+    let h = at-if1 .if1 .left in
+    less-pop R h (at-if6 .if6 .left) _ (at-cell6 .cell6 .ensures) _ (at-remember .remember .ensures) _ _ _ (at-cell7 .cell7 .ensures) (at-cell8 .cell8 .ensures) (c .cell9 .ensures)
 
 loop-again-6 : tie.Need-loop-again-6 Inv-loop μ-loop
-loop-again-6 c = let R = c .before .before .before .before .before .before .before .before .before .before .before .before .before .before .loop .inv in let h = c .before .before .before .before .before .before .before .before .before .before .before .before .before .if1 .left in go-pop R h (c .before .before .before .before .before .before .before .before .before .before .before .before .if6 .left) _ (c .before .before .before .before .before .before .before .before .before .before .cell6 .ensures) _ (c .before .before .before .before .before .before .before .before .remember .ensures) _ _ _ (c .before .before .before .before .cell7 .ensures) (c .before .before .cell8 .ensures) (c .cell9 .ensures)
+loop-again-6 c =
+    let at-cell8 = c .before .before in
+    let at-cell7 = at-cell8 .before .before in
+    let at-remember = at-cell7 .before .before .before .before in
+    let at-cell6 = at-remember .before .before in
+    let at-if6 = at-cell6 .before .before in
+    let at-if1 = at-if6 .before in
+    let at-loop = at-if1 .before in
+    let R = at-loop .loop .inv in
+    let h = at-if1 .if1 .left in
+    go-pop R h (at-if6 .if6 .left) _ (at-cell6 .cell6 .ensures) _ (at-remember .remember .ensures) _ _ _ (at-cell7 .cell7 .ensures) (at-cell8 .cell8 .ensures) (c .cell9 .ensures)
 
 pub write-value-spec : {M : Type 1} → statement M
 write-value-spec =

@@ -37,7 +37,14 @@ add-measure-rows : tie.Need-add-measure-rows
 add-measure-rows c = search needs
 
 measure-rows-requires : tie.Need-measure-rows-requires
-measure-rows-requires c κs = let S = c .before .before .before .before .before .before .before .args in (c .before .before .before .before .before .before .before .pre .0, omega (arith, c .before .before .cell2 .ensures, cell-small (S .ws .now) (5 * S .n) (S .n) (c .before .before .before .before .cell .result - 1) (λ i. omega (arith, c .before .before .before .before .before .before .shared-slice-known .given i))), omega (arith, c .before .cell3 .ensures, cell-small (S .ws .now) (6 * S .n) (S .n) (c .before .before .before .before .cell .result - 1) (λ i. omega (arith, c .before .before .before .before .before .before .shared-slice-known .given i))), omega (arith, c .before .before .before .before .before .before .before .pre .1))
+measure-rows-requires c κs =
+    let at-cell3 = c .before in
+    let at-cell2 = at-cell3 .before in
+    let at-cell = at-cell2 .before .before in
+    let at-shared-slice-known = at-cell .before .before in
+    let at-args = at-shared-slice-known .before in
+    let S = at-args .args in
+    (at-args .pre .0, omega (arith, at-cell2 .cell2 .ensures, cell-small (S .ws .now) (5 * S .n) (S .n) (at-cell .cell .result - 1) (λ i. omega (arith, at-shared-slice-known .shared-slice-known .given i))), omega (arith, at-cell3 .cell3 .ensures, cell-small (S .ws .now) (6 * S .n) (S .n) (at-cell .cell .result - 1) (λ i. omega (arith, at-shared-slice-known .shared-slice-known .given i))), omega (arith, at-args .pre .1))
 
 returns-2 : tie.Need-returns-2
 returns-2 c = c .measure-rows .ensures ∙ rw (← (c .before .before .before .before .before .cell .ensures)) (entry-rows _ _ _ _ _ _ (c .before .before .before .before .if1 .left) _ _ (c .before .before .before .cell2 .ensures) (c .before .before .cell3 .ensures) (c .before .if2 .taken))

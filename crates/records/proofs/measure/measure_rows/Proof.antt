@@ -61,7 +61,14 @@ add-sum : tie.Need-add-sum Inv-loop μ-loop
 add-sum c = let S = c .before .before .before .before .before .before .before .before .before .before .args in omega (arith, sum-small (S .n) (S .count) (S .v) (S .ws .now) (S .pool .now) _ _ _ (sym (c .before .a2 .given .1) ∙ c .before .before .before .sum-on .ensures))
 
 add-sum-2 : tie.Need-add-sum-2 Inv-loop μ-loop
-add-sum-2 c = let R = c .before .before .before .before .before .before .before .loop .inv in let S = c .before .before .before .before .before .before .before .before .before .before .args in omega (arith, sum-small (S .n) (S .count) (S .v) (S .ws .now) (S .pool .now) _ _ _ (sym (c .before .a2 .given .1) ∙ c .before .before .before .sum-on .ensures), R .0, R .1, c .before .before .before .before .before .before .before .before .before .before .pre .2, c .before .before .before .before .before .before .before .before .before .before .pre .3)
+add-sum-2 c =
+    let at-a2 = c .before in
+    let at-sum-on = at-a2 .before .before in
+    let at-loop = at-sum-on .before .before .before .before in
+    let at-args = at-loop .before .before .before in
+    let R = at-loop .loop .inv in
+    let S = at-args .args in
+    omega (arith, sum-small (S .n) (S .count) (S .v) (S .ws .now) (S .pool .now) _ _ _ (sym (at-a2 .a2 .given .1) ∙ at-sum-on .sum-on .ensures), R .0, R .1, at-args .pre .2, at-args .pre .3)
 
 add-i : tie.Need-add-i Inv-loop μ-loop
 add-i c = omega (arith, c .before .before .before .before .before .before .loop-test .taken, c .before .before .before .before .before .before .before .before .before .before .pre .2)
@@ -70,7 +77,17 @@ loop-less : tie.Need-loop-less Inv-loop μ-loop
 loop-less c = omega (arith, c .before .before .before .before .before .before .loop-test .taken)
 
 loop-again : tie.Need-loop-again Inv-loop μ-loop
-loop-again c = let R = c .before .before .before .before .before .before .before .loop .inv in let S = c .before .before .before .before .before .before .before .before .before .before .args in (omega (arith, c .before .before .before .before .before .before .loop-test .taken), omega (arith, R .1, sum-small (S .n) (S .count) (S .v) (S .ws .now) (S .pool .now) _ _ _ (sym (c .before .a2 .given .1) ∙ c .before .before .before .sum-on .ensures)), sym (rows-more _ _ _ _ _ _ _ _ (c .before .before .before .before .before .before .loop-test .taken) _ _ (c .before .before .before .before .before .cell .ensures) (c .before .before .before .before .cell2 .ensures) _ (c .before .before .before .sum-on .ensures) _ (c .before .a2 .given .1)) ∙ R .2)
+loop-again c =
+    let at-a2 = c .before in
+    let at-sum-on = at-a2 .before .before in
+    let at-cell2 = at-sum-on .before in
+    let at-cell = at-cell2 .before in
+    let at-loop-test = at-cell .before in
+    let at-loop = at-loop-test .before in
+    let at-args = at-loop .before .before .before in
+    let R = at-loop .loop .inv in
+    let S = at-args .args in
+    (omega (arith, at-loop-test .loop-test .taken), omega (arith, R .1, sum-small (S .n) (S .count) (S .v) (S .ws .now) (S .pool .now) _ _ _ (sym (at-a2 .a2 .given .1) ∙ at-sum-on .sum-on .ensures)), sym (rows-more _ _ _ _ _ _ _ _ (at-loop-test .loop-test .taken) _ _ (at-cell .cell .ensures) (at-cell2 .cell2 .ensures) _ (at-sum-on .sum-on .ensures) _ (at-a2 .a2 .given .1)) ∙ R .2)
 
 returns-3 : tie.Need-returns-3 Inv-loop μ-loop
 returns-3 c = let R = c .before .loop .inv in sym (rows-end _ _ _ _ _ _ _ _ (c .loop-test .left)) ∙ R .2

@@ -45,7 +45,14 @@ loop-less : tie.Need-loop-less Inv-loop μ-loop
 loop-less c = omega (arith, c .before .before .before .before .before .before .before .before .before .before .before .loop-test .taken)
 
 loop-again : tie.Need-loop-again Inv-loop μ-loop
-loop-again c = let R = c .before .before .before .before .before .before .before .before .before .before .before .before .loop .inv in next R (c .before .before .before .before .before .before .before .before .before .before .before .loop-test .taken) _ _ (c .before .before .before .before .before .before .before .before .before .cell .ensures) (c .before .before .before .before .before .before .before .cell2 .ensures) (c .before .before .before .before .write-record .ensures)
+loop-again c =
+    let at-write-record = c .before .before .before .before in
+    let at-cell2 = at-write-record .before .before .before in
+    let at-cell = at-cell2 .before .before in
+    let at-loop-test = at-cell .before .before in
+    let at-loop = at-loop-test .before in
+    let R = at-loop .loop .inv in
+    next R (at-loop-test .loop-test .taken) _ _ (at-cell .cell .ensures) (at-cell2 .cell2 .ensures) (at-write-record .write-record .ensures)
 
 same-length : tie.Need-same-length Inv-loop μ-loop
 same-length c = let R = c .before .loop .inv in R .written .apart .long

@@ -17,7 +17,12 @@ same-length-2 : tie.Need-same-length-2
 same-length-2 c = search needs
 
 returns : tie.Need-returns
-returns c = let S = c .before .before .before .before .before .before .before .before .before .before .before .before .before .before .args in each-done (S .n) (S .count) (S .v) (S .pool .now) (S .ws .now) (S .out .now) (c .before .before .before .before .before .before .before .before .before .before .before .before .before .before .pre) _ (c .before .before .before .before .before .before .before .before .before .forget .ensures) (c .before .before .before .before .write-each .ensures)
+returns c =
+    let at-write-each = c .before .before .before .before in
+    let at-forget = at-write-each .before .before .before .before .before in
+    let at-args = at-forget .before .before .before .before .before in
+    let S = at-args .args in
+    each-done (S .n) (S .count) (S .v) (S .pool .now) (S .ws .now) (S .out .now) (at-args .pre) _ (at-forget .forget .ensures) (at-write-each .write-each .ensures)
 
 pub write-fields-spec : {M : Type 1} → statement M
 write-fields-spec =

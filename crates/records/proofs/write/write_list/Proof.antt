@@ -17,7 +17,12 @@ add-write-arguments : tie.Need-add-write-arguments
 add-write-arguments c = let S = c .before .before .before .before .before .before .before .before .before .before .before .before .before .args in omega (arith, list-head-fits (S .at) (S .kind) (S .row) (S .rows) (c .before .before .before .before .before .before .before .before .before .before .before .before .before .pre))
 
 write-arguments-requires : tie.Need-write-arguments-requires
-write-arguments-requires c κs = let S = c .before .before .before .before .before .before .before .before .before .before .before .before .before .args in args-fit (S .at) (S .kind) (S .row) (S .rows) (c .before .before .before .before .before .before .before .before .before .before .before .before .before .pre) _ (c .before .before .before .before .before .before .before .before .put-head .ensures) _ (c .before .before .before .before .put-little .ensures)
+write-arguments-requires c κs =
+    let at-put-little = c .before .before .before .before in
+    let at-put-head = at-put-little .before .before .before .before in
+    let at-args = at-put-head .before .before .before .before .before in
+    let S = at-args .args in
+    args-fit (S .at) (S .kind) (S .row) (S .rows) (at-args .pre) _ (at-put-head .put-head .ensures) _ (at-put-little .put-little .ensures)
 
 same-length : tie.Need-same-length
 same-length c = search needs
@@ -26,7 +31,13 @@ same-length-2 : tie.Need-same-length-2
 same-length-2 c = search needs
 
 returns : tie.Need-returns
-returns c = let S = c .before .before .before .before .before .before .before .before .before .before .before .before .before .before .before .before .before .before .args in listed (S .at) (S .kind) (S .row) (S .rows) (c .before .before .before .before .before .before .before .before .before .before .before .before .before .before .before .before .before .before .pre) _ (c .before .before .before .before .before .before .before .before .before .before .before .before .before .put-head .ensures) _ (c .before .before .before .before .before .before .before .before .before .put-little .ensures) (c .before .before .before .before .write-arguments .ensures)
+returns c =
+    let at-write-arguments = c .before .before .before .before in
+    let at-put-little = at-write-arguments .before .before .before .before .before in
+    let at-put-head = at-put-little .before .before .before .before in
+    let at-args = at-put-head .before .before .before .before .before in
+    let S = at-args .args in
+    listed (S .at) (S .kind) (S .row) (S .rows) (at-args .pre) _ (at-put-head .put-head .ensures) _ (at-put-little .put-little .ensures) (at-write-arguments .write-arguments .ensures)
 
 pub write-list-spec : {M : Type 1} → statement M
 write-list-spec =

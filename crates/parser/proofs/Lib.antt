@@ -1,0 +1,6 @@
+pub mod Answering
+pub mod Frames
+pub mod Lines
+pub mod Assigning
+pub mod Giving
+pub mod LookedUp

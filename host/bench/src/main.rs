@@ -1,0 +1,261 @@
+//! Times the proved reader and upstream's Rust in one process, on the same texts.
+//!
+//! Usage: `bench [write] [FAMILY ..]`, without families for all. With `write`, the result goes to `docs/SPEED.md` too.
+//! Build it with `--release`. Times on different machines say nothing; the ratios do.
+
+mod families;
+
+use cabbagelute::{PkgConfig, raw};
+use families::{FAMILIES, Family, SIZES, Texts};
+use std::fmt::Write;
+use std::hint::black_box;
+use std::path::Path;
+use std::process::ExitCode;
+use std::time::{Duration, Instant};
+
+/// For how long each of the three is timed, at least once.
+const BUDGET: Duration = Duration::from_millis(600);
+
+/// The shortest time that is taken as one measurement.
+const MEASUREMENT: Duration = Duration::from_millis(5);
+
+fn main() -> ExitCode {
+    let mut asked: Vec<String> = std::env::args().skip(1).collect();
+    let write = asked.first().is_some_and(|word| word == "write");
+    if write {
+        asked.remove(0);
+    }
+    if let Some(unknown) = asked.iter().find(|name| FAMILIES.iter().all(|family| family.name != **name)) {
+        eprintln!("bench: there is no family {unknown}");
+        return ExitCode::FAILURE;
+    }
+    if write && !asked.is_empty() {
+        eprintln!("bench: docs/SPEED.md is about all families");
+        return ExitCode::FAILURE;
+    }
+
+    let mut rows = Vec::new();
+    println!(
+        "family, text: Rust, reader, crate in microseconds; times as fast (reader, crate); growth; verdict"
+    );
+    for family in FAMILIES {
+        if asked.is_empty() || asked.iter().any(|name| name == family.name) {
+            let measured = measure(family);
+            for row in &measured {
+                println!("{row}");
+            }
+            rows.extend(measured);
+        }
+    }
+    let missed = rows.iter().filter(|row| row.verdict.contains("MISSED")).count();
+    println!("{missed} bars missed");
+    if write {
+        let path = Path::new(env!("CARGO_MANIFEST_DIR")).join("../../docs/SPEED.md");
+        if let Err(error) = std::fs::write(&path, page(&rows)) {
+            eprintln!("bench: {}: {error}", path.display());
+            return ExitCode::FAILURE;
+        }
+    }
+    ExitCode::SUCCESS
+}
+
+/// One line of the result.
+struct Row {
+    family: &'static str,
+    bytes: usize,
+    /// Microseconds for upstream's Rust, the reader alone, and the crate around it.
+    times: [f64; 3],
+    /// How many times the reader's time grew from the row before.
+    growth: Option<f64>,
+    verdict: String,
+}
+
+impl Row {
+    /// How many times as fast as the Rust the reader and the crate are.
+    fn ratios(&self) -> [f64; 2] {
+        let [rust, reader, whole] = self.times;
+        [rust / reader, rust / whole]
+    }
+
+    fn shown_growth(&self) -> String {
+        self.growth.map_or(String::new(), |growth| format!("{growth:.2}"))
+    }
+}
+
+impl std::fmt::Display for Row {
+    fn fmt(&self, f: &mut std::fmt::Formatter<'_>) -> std::fmt::Result {
+        let [rust, reader, whole] = self.times;
+        let [reader_ratio, crate_ratio] = self.ratios();
+        write!(
+            f,
+            "{:10} {:6}: {rust:10.1} {reader:9.1} {whole:9.1}; {reader_ratio:7.2} {crate_ratio:7.2}; {:4}; {}",
+            self.family,
+            self.bytes,
+            self.shown_growth(),
+            self.verdict
+        )
+    }
+}
+
+fn measure(family: &Family) -> Vec<Row> {
+    let sets: Vec<Vec<Vec<u8>>> = match family.texts {
+        Texts::Growing(make) => SIZES.iter().map(|bytes| vec![make(*bytes).into_bytes()]).collect(),
+        Texts::One(make) => vec![vec![make().into_bytes()]],
+        Texts::Many(make) => vec![make()],
+    };
+    let mut rows: Vec<Row> = Vec::new();
+    let last = sets.len() - 1;
+    for (at, texts) in sets.iter().enumerate() {
+        let times = time(texts);
+        let growth = rows.last().map(|before| times[1] / before.times[1]);
+        let bytes = texts.iter().map(Vec::len).sum();
+        let mut row = Row { family: family.name, bytes, times, growth, verdict: String::new() };
+        row.verdict = verdict(family, &row, at == last);
+        rows.push(row);
+    }
+    rows
+}
+
+/// What the bars say of a row. The ratio counts at the largest size.
+fn verdict(family: &Family, row: &Row, largest: bool) -> String {
+    let mut words = Vec::new();
+    let [ratio, _] = row.ratios();
+    if let (true, Some((bar, aim))) = (largest, family.bar) {
+        words.push(if ratio >= aim {
+            format!("aim {aim} met")
+        } else if ratio >= bar {
+            format!("bar {bar} met")
+        } else {
+            format!("bar {bar} MISSED")
+        });
+    }
+    if let (Some(growth), Some(bound)) = (row.growth, family.growth) {
+        if growth > bound {
+            words.push(format!("growth {bound} MISSED"));
+        }
+    }
+    words.join(", ")
+}
+
+/// Microseconds for all the texts: upstream's Rust, the reader alone, the crate around it. The three take turns, and of each
+/// the best turn counts.
+fn time(texts: &[Vec<u8>]) -> [f64; 3] {
+    let mut buffers = Buffers::for_texts(texts);
+    let strings: Vec<&str> = texts.iter().filter_map(|text| std::str::from_utf8(text).ok()).collect();
+    let mut subjects: [&mut dyn FnMut(); 3] = [
+        &mut || {
+            for text in &strings {
+                drop(black_box(cuddld_pkg_config::PkgConfig::parse(black_box(text))));
+            }
+        },
+        &mut || {
+            for text in &strings {
+                black_box(buffers.read(black_box(text.as_bytes())));
+            }
+        },
+        &mut || {
+            for text in &strings {
+                drop(black_box(PkgConfig::parse(black_box(text))));
+            }
+        },
+    ];
+    let mut best = [f64::INFINITY; 3];
+    let mut spent = [Duration::ZERO; 3];
+    let mut repeats = [1_u32; 3];
+    while spent.iter().any(|spent| *spent < BUDGET) {
+        for (which, subject) in subjects.iter_mut().enumerate() {
+            if spent[which] >= BUDGET {
+                continue;
+            }
+            let start = Instant::now();
+            for _ in 0..repeats[which] {
+                subject();
+            }
+            let taken = start.elapsed();
+            spent[which] += taken;
+            best[which] = best[which].min(taken.as_secs_f64() * 1e6 / f64::from(repeats[which]));
+            if taken < MEASUREMENT {
+                repeats[which] *= 2;
+            }
+        }
+    }
+    best
+}
+
+/// What is lent to the reader: made once, and not cleared between calls.
+struct Buffers {
+    workspace: Vec<u32>,
+    pool: Vec<u8>,
+    output: Vec<u8>,
+}
+
+impl Buffers {
+    /// Buffers that are long enough for each of the texts.
+    fn for_texts(texts: &[Vec<u8>]) -> Self {
+        let longest = texts.iter().map(Vec::len).max().unwrap_or(0);
+        let mut buffers = Buffers {
+            workspace: vec![u32::MAX; raw::workspace_entries(longest)],
+            pool: vec![u8::MAX; longest],
+            output: Vec::new(),
+        };
+        for text in texts {
+            let outcome = buffers.read(text);
+            if outcome.number == 17 {
+                buffers.output = vec![u8::MAX; outcome.detail.value as usize];
+            }
+        }
+        buffers
+    }
+
+    fn read(&mut self, text: &[u8]) -> raw::Outcome {
+        raw::outcome_in(text, &mut self.workspace, &mut self.pool, &mut self.output)
+    }
+}
+
+/// `docs/SPEED.md`.
+fn page(rows: &[Row]) -> String {
+    let processor = std::fs::read_to_string("/proc/cpuinfo").unwrap_or_default();
+    let processor = processor.lines().find_map(|line| line.strip_prefix("model name")).unwrap_or(": unknown");
+    let mut page = format!(
+        "# Speed
+
+Made in `host/` by
+
+    cargo run --release -p bench -- write
+
+Upstream's Rust and the proved reader in one process, both x86-64, on the same texts, all built for release. The three take
+turns, and of each the best turn counts. Times are in microseconds and say little on another machine; the ratios should hold.
+Processor{}.
+
+- Rust: upstream's `PkgConfig::parse`, and dropping what it gives.
+- reader: `cabbagelute_read_in` alone. Its buffers were made once and are not cleared between calls.
+- crate: `PkgConfig::parse` of the crate `cabbagelute`: it makes all buffers, calls the reader, and copies the values into
+  strings, which are dropped.
+
+The verdict is about the reader: how many times as fast as the Rust at the largest size, and how its time grows where the text
+doubles.
+
+| family | bytes | Rust | reader | crate | Rust / reader | Rust / crate | growth | verdict |
+|---|---|---|---|---|---|---|---|---|
+",
+        processor.trim_start()
+    );
+    for row in rows {
+        let [rust, reader, whole] = row.times;
+        let [reader_ratio, crate_ratio] = row.ratios();
+        writeln!(
+            page,
+            "| {} | {} | {rust:.1} | {reader:.1} | {whole:.1} | {reader_ratio:.2} | {crate_ratio:.2} | {} | {} |",
+            row.family,
+            row.bytes,
+            row.shown_growth(),
+            row.verdict
+        )
+        .expect("a string takes all");
+    }
+    page += "\nThe families:\n\n";
+    for family in FAMILIES {
+        writeln!(page, "- {}: {}.", family.name, family.about).expect("a string takes all");
+    }
+    page
+}
