@@ -5,8 +5,13 @@ use mathlib.Core.List.{List}
 use lib.ListN.{length, drop}
 use Rattle.rules.specs.Numbers as Rules
 use Rattle.rules.specs.Lexing.{tokens}
-use Rattle.rules.specs.Reading.{reading}
+use Rattle.rules.specs.Tokens.{Token}
+use Rattle.rules.specs.Lines.{noLines, lines, readLines}
+use Rattle.rules.specs.Reading.{recordsOfFile, reading}
 use Rattle.rules.specs.Reader as Reader
+use Rattle.lexer.specs.declared.LexError.{LexError}
+use Rattle.lexer.specs.declared.LexError.the-variants.{MissingCloseVariable, InvalidVariableChar}
+use Rattle.answers.specs.declared.Number.the-variants as N
 use Rattle.answers.specs.declared.Answer.{Answer}
 use Rattle.answers.specs.Tells.{Tells}
 
@@ -37,3 +42,12 @@ pub record Lent (text ws pool : List ℕ) : Type 0 where
 pub record ReadsText (text ws pool out ws′ pool′ out′ : List ℕ) (r : Answer) : Type 0 where
   pub ends : Ends (length text) (reading text) ws out ws′ out′ r
   pub is-pool : pool′ ≡ Reader.poolAfter (tokens text) pool
+
+-- what tokens read as: their records, or the first refusal
+unfoldable pub linesRead : List Token → Rules.Result (List ℕ)
+linesRead ts = Rules._>>=_ (readLines noLines (lines ts)) recordsOfFile
+
+-- the answer of the code to an error of lexing
+abbrev pub lexAnswer : LexError → Answer
+lexAnswer MissingCloseVariable = record { number = N.MissingCloseVariable; detail = record { value = 0; first = record { place = 0; length = 0 }; second = record { place = 0; length = 0 } } }
+lexAnswer (InvalidVariableChar c) = record { number = N.InvalidVariableChar; detail = record { value = c; first = record { place = 0; length = 0 }; second = record { place = 0; length = 0 } } }
