@@ -4,3 +4,4 @@ pub mod Lines
 pub mod Assigning
 pub mod Giving
 pub mod LookedUp
+pub mod Lexed
