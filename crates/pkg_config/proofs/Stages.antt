@@ -190,6 +190,7 @@ module _ (n count v : ℕ) (ws pool : List ℕ) where
       rw (e, z, z′) (ends-all n (afterVariables (fileIn n count v ws pool) vals) ws out ws′ b fieldRecords out′ (answerOf N.Accepted need noNameOf noNameOf)
       (after-ok (fileIn n count v ws pool) vals (presents (tablesIn n count v ws pool) (fieldsOf n ws) 1 10) (x .0)) (omega (arith, r, h, x .1)) (w .bytes)
       (count-tells N.Accepted (Rules.Accepted (length fieldRecords)) need (length fieldRecords) refl refl (x .1)))
+
   pub need-measures : (m : Measured) (need : ℕ) → Solved n count v ws pool → m ≡ measureIn n count v ws pool → m ≡ Need need → Measures n count v need ws pool
   need-measures m need s e q = record { solved = s; is-need = sym q ∙ e }
 
@@ -238,7 +239,7 @@ unfolding recordsOfFile _>>=_ afterVariables
 file-after x vals e = rw (e, recordsOfFile, _>>=_) refl
 
 -- a stage that goes on with another's end
-ends-on : (n : ℕ) (x y : Result (List ℕ)) (ws ws₁ ws₂ out out′ : List ℕ) (a : Answer) → y ≡ x → drop (12 * n + 64) ws₁ ≡ drop (12 * n + 64) ws → Ends n x ws₁ out ws₂ out′ a → Ends n y ws out ws₂ out′ a
+pub ends-on : (n : ℕ) (x y : Result (List ℕ)) (ws ws₁ ws₂ out out′ : List ℕ) (a : Answer) → y ≡ x → drop (12 * n + 64) ws₁ ≡ drop (12 * n + 64) ws → Ends n x ws₁ out ws₂ out′ a → Ends n y ws out ws₂ out′ a
 ends-on n x y ws ws₁ ws₂ out out′ a e b h =
     let s = same-answer x (lent ws₁ out out) (lent ws out out) refl in
     record {
@@ -386,6 +387,6 @@ module _ (n count v : ℕ) (ws pool : List ℕ) (F : Filed n count v ws pool) wh
             → Ends n (recordsOfFile (fileIn n count v ws pool)) ws out ws₃ out′ a
         ends-resolved out ws₃ out′ a h =
             let x : recordsOfFile (fileIn n count v ws pool) ≡ afterVariables (fileIn n count v ws₂ pool) (tablesIn n count v ws₂ pool .values) =
-                file-after (fileIn n count v ws pool) (settled-says .0) (ap resolveVariables file-variables ∙ settled-says .1)
-                ∙ ap (λ (f : File). afterVariables f (settled-says .0)) (sym same-file) ∙ ap (afterVariables (fileIn n count v ws₂ pool)) (sym values-are) in
+            file-after (fileIn n count v ws pool) (settled-says .0) (ap resolveVariables file-variables ∙ settled-says .1)
+            ∙ ap (λ (f : File). afterVariables f (settled-says .0)) (sym same-file) ∙ ap (afterVariables (fileIn n count v ws₂ pool)) (sym values-are) in
             ends-on n (afterVariables (fileIn n count v ws₂ pool) (tablesIn n count v ws₂ pool .values)) (recordsOfFile (fileIn n count v ws pool)) ws ws₂ ws₃ out out′ a x past-kept h

@@ -34,7 +34,12 @@ fn lex_refusal(e: LexError) -> Answer
 {
     match e {
         LexError::MissingCloseVariable => bare(Number::MissingCloseVariable),
-        LexError::InvalidVariableChar(c) => answer(Number::InvalidVariableChar, c as u64, no_name(), no_name()),
+        LexError::InvalidVariableChar(c) => answer(
+            Number::InvalidVariableChar,
+            c as u64,
+            no_name(),
+            no_name(),
+        ),
     }
 }
 
