@@ -16,7 +16,7 @@ use Rattle.rules.specs.Reader.{Buffers, Outcome, readBuffers, written, u
 use Rattle.rules.specs.Demand3.{TooLarge, Lacks, Numbered, ForVariable, Demand3OfCall}
 use Rattle.rules.proofs.TableLaws.{file-sorted}
 use Rattle.rules.proofs.Demand3Laws.{too-large-exactly, lacks-exactly, resolve-exactly, reading-refused}
-use Rattle.rules.proofs.Stronger.{OneOf, one-of}
+use Rattle.rules.proofs.OutcomeLaws.{OneOf, one-of}
 use Rattle.rules.proofs.RefusalLaws.{Stage, stage, resolving, Only, OnLines, OnFields, only-map, file-only, fields-only, afterVariables, reading-resolved, reading-variable}
 use Rattle.rules.proofs.CallLaws.{Ready, Checked, checked, read-on}
 

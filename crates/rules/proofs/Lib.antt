@@ -9,11 +9,11 @@ pub mod Lengths
 pub mod TableLaws
 pub mod LinesLaws
 pub mod Demand3Laws
-pub mod Stronger
+pub mod OutcomeLaws
 pub mod FieldsLaws
 pub mod LexingLaws
 pub mod ListingLaws
-pub mod Form
+pub mod FormLaws
 pub mod RecordsLaws
 pub mod RefusalLaws
 pub mod CallLaws

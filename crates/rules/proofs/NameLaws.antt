@@ -24,7 +24,7 @@ use Rattle.rules.proofs.TableLaws.{Sorted, file-sorted, bind-ok, ok-one
 use Rattle.rules.proofs.LexingLaws.{Fits, lexeme-fits, lex-chars, lex-reference, lex-mark, lex-bad, prepend-ok, In, name-in-pool}
 use Rattle.rules.proofs.TokenLaws.{Each, InPart, InParts, InAll, InTemplate, IsKey, InVariables, InFields, InFile, Carried, Gives, file-gives}
 use Rattle.rules.proofs.Demand3Laws.{lacks-exactly}
-use Rattle.rules.proofs.Stronger.{OneOf, one-of, large-name}
+use Rattle.rules.proofs.OutcomeLaws.{OneOf, one-of, large-name}
 use Rattle.rules.proofs.RefusalLaws.{Stage, stage, resolving, Only, OnLexing, OnLines, lex-only, file-only}
 use Rattle.rules.proofs.CallLaws.{Checked, checked}
 

@@ -10,7 +10,7 @@ use Rattle.rules.specs.Fields.{Present}
 use Rattle.rules.specs.Records.{records}
 use Rattle.rules.specs.Listing.{linesOfRecords}
 use Rattle.rules.proofs.ListingLaws.{InOrder, fieldLines}
-use Rattle.rules.proofs.Form.{Octets, form-exactly}
+use Rattle.rules.proofs.FormLaws.{Octets, form-exactly}
 use Rattle.walker.specs.Walks.{isSome}
 
 some-is : {A : Type 0} (o : Option A) → isSome o ≡ true → (a : A) × (o ≡ some a)

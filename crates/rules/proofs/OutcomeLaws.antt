@@ -1,4 +1,4 @@
--- Demand 3, what the draft leaves unsaid: no fourth outcome, one value, the name 16 carries, numbering alone, and the reader's answer. Assumes nothing.
+-- Demand 3 of `resolveVariables`: no fourth outcome, one value, the name that 16 carries, and numbering alone. Assumes nothing.
 use Prim.Native.Nat.{ℕ, zero, suc, _<_}
 use mathlib.Core.Path.{_≡_, refl, ap, sym, _∙_, subst}
 use mathlib.Core.Logic.{_↔_}
