@@ -7,7 +7,8 @@ use scan::column::part;
 use scan::little::get_little;
 use scan::order::same_bytes;
 
-// What the first byte of an answer says, where it is not the number of a refusal.
+// What the first byte of an answer says, where it is not the number of a refusal. Records of more than 65,536 bytes do not fit the
+// output: of these the need is compared, and not their sums.
 struct Mark {}
 
 impl Mark {
@@ -24,6 +25,7 @@ fn fill(buffer: &mut [u8], n: usize) -> bool {
     io::read_full(0, &mut buffer[0..n]) == n
 }
 
+// A number of 2 or 4 bytes, little-endian; 0 where the input ends before.
 fn read_number(width: usize) -> usize {
     let mut bytes = [0u8; 8];
     if fill(&mut bytes, width) {
