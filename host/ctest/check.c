@@ -6,7 +6,8 @@
  * Each text is read in several ways: with the reader's own workspace and a lent one, with buffers of exact length, longer,
  * and one entry short. Each call is made twice, with dirty buffers that differ in every bit: a byte that is the same
  * afterwards was written, a byte that still differs was not. Guards stand on both sides of each buffer.
- * The last line is 'N passed, M failed', where a test is a text with all its ways of calling.
+ * Versions are compared by a table of pairs. The last line is 'N passed, M failed', where a test is a text with all its ways
+ * of calling, or a pair of versions.
  */
 #include <stdbool.h>
 #include <stdio.h>
@@ -382,6 +383,51 @@ static struct bytes whole_file(const char *path)
     return (struct bytes){bytes, length};
 }
 
+/* The bytes of a version in memory of exactly their length, so that a sanitizer sees a read past them. */
+static uint8_t *exactly(const char *version, size_t length)
+{
+    uint8_t *memory = malloc(length == 0 ? 1 : length);
+    if (memory == NULL)
+        exit(2);
+    memcpy(memory, version, length);
+    return memory;
+}
+
+/* Versions by the header's words: each pair both ways round, and with each operator. */
+static void check_versions(void)
+{
+    static const struct {
+        const char *first, *second;
+        uint32_t order; /* of the first to the second: 0 equal, 1 lower, 2 higher */
+    } pairs[] = {
+        {"1.10", "1.9", 2},  {"1.0", "1", 2},   {"1.a", "1.1", 1},   {"007", "7", 0},  {"1..2", "1.2", 0},
+        {"", "...", 0},      {"1~2", "1.2", 0}, {"1a", "1.a", 0},    {"Z", "a", 1},    {"ab", "abc", 1},
+        {"a@b", "a[b", 0},   {"", "0", 1},      {"1.0a", "1.0", 2},  {"1.02", "1.2", 0},
+        {"99999999999999999999", "100000000000000000000", 1}, {"18446744073709551616", "0", 2},
+    };
+    /* what an operator says of an equal, a lower and a higher version */
+    static const uint32_t met[9][3] = {
+        {1, 1, 1}, {1, 0, 0}, {0, 1, 0}, {0, 0, 1}, {1, 1, 0}, {1, 0, 1}, {0, 1, 1}, {2, 2, 2}, {2, 2, 2},
+    };
+    for (size_t at = 0; at < sizeof pairs / sizeof pairs[0]; at++) {
+        size_t m = strlen(pairs[at].first), n = strlen(pairs[at].second);
+        uint8_t *a = exactly(pairs[at].first, m), *b = exactly(pairs[at].second, n);
+        uint32_t order = pairs[at].order, turned = order == 0 ? 0 : 3 - order;
+        bool fine = cabbagelute_compare_versions(a, m, b, n) == order && cabbagelute_compare_versions(b, n, a, m) == turned &&
+                    cabbagelute_compare_versions(a, m, a, m) == 0;
+        for (uint32_t op = 0; op < 9; op++)
+            fine = fine && cabbagelute_version_meets(a, m, op < 8 ? op : UINT32_MAX, b, n) == met[op][order];
+        if (fine)
+            texts_passed++;
+        else {
+            texts_failed++;
+            printf("versions \"%s\" and \"%s\": wrong\n", pairs[at].first, pairs[at].second);
+        }
+        free(a);
+        free(b);
+    }
+}
+
 int main(int count, char **arguments)
 {
     struct list list = {0};
@@ -402,6 +448,7 @@ int main(int count, char **arguments)
         check_text(text, &answer);
     }
     check_too_long();
+    check_versions();
     free((void *)(uintptr_t)list.all.at);
     printf("%lu passed, %lu failed\n", texts_passed, texts_failed);
     return texts_failed == 0 ? 0 : 1;
