@@ -61,6 +61,31 @@ uint32_t cabbagelute_read_in(
     uint8_t *output, size_t output_len,
     uint8_t *detail, size_t detail_len);
 
+/*
+ * Versions, compared by runs: 0 equal, 1 the first is lower, 2 the first is higher.
+ *
+ * Each version is cut into runs of ASCII digits or of ASCII letters, as long as they go; all other bytes only separate. The
+ * first pair of runs that differs decides: digit runs compare as numbers of any length, letter runs by their bytes (a run that
+ * begins another is lower), and a digit run is above a letter run. Where one version's runs end first, the other is higher. So
+ * it is a total order, and 0 is given exactly if the runs are the same, leading zeros of digit runs aside.
+ *
+ * Both are only read, so they may overlap.
+ */
+uint32_t cabbagelute_compare_versions(
+    const uint8_t *a, size_t a_len,
+    const uint8_t *b, size_t b_len);
+
+/*
+ * Whether a version meets an operator and a version asked for: 1 met, 0 not met, 2 no such operator (over 6).
+ *
+ * The operators: 1 `=`, 2 `<`, 3 `>`, 4 `<=`, 5 `>=`, 6 `!=`, by the order above, the version on the left. 0 asks for no
+ * version and is always met. Both versions are only read.
+ */
+uint32_t cabbagelute_version_meets(
+    const uint8_t *version, size_t version_len,
+    uint32_t op,
+    const uint8_t *asked, size_t asked_len);
+
 #ifdef __cplusplus
 }
 #endif

@@ -9,6 +9,8 @@ use answers::number_of;
 use pkg_config::read;
 use scan::little::put_little;
 
+pub mod version_calls;
+
 // The sizes of the exported calls.
 pub struct Size;
 

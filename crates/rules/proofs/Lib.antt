@@ -26,3 +26,7 @@ pub mod Cases
 pub mod SourceCases
 pub mod TokenLaws
 pub mod NameLaws
+pub mod VersionsLaws
+pub mod DigitsLaws
+pub mod VersionCases
+pub mod RunsLaws
