@@ -7,7 +7,6 @@ use native.Mathlib.Decide.{ℕ-discrete}
 use lib.ListN.{length}
 use borrow.Author.Tests.{ne-eqb, lt-ltb, le-ltb, le-leb, lt-leb}
 use Rattle.rules.specs.Bytes.{pick}
-use Rattle.rules.specs.Lexing as L
 use Rattle.lexer.specs.Pieces.{lexemeAt, shown, Shows}
 use Rattle.reader_walk.specs.Steps.{told, stepAt, endOf, endAt}
 use Rattle.reader_walk.specs.declared.Step.{Step}
