@@ -133,10 +133,6 @@ module _ (b : ℕ) (h : 256 ≤ b) where
         not-is 95 (omega arith),
       )
 
-  not-blank : (is " " b || is "\t" b) ≡ false
-  unfolding is
-  not-blank = rw (not-is 32 (omega arith), not-is 9 (omega arith))
-
   not-line-end : isLineEnd b ≡ false
   unfolding isLineEnd is
   not-line-end = rw (not-is 10 (omega arith), not-is 13 (omega arith))
