@@ -7,7 +7,6 @@ use Rattle.rules.specs.Numbers as Rules
 use Rattle.answers.specs.declared.Number.{Number}
 use Rattle.answers.specs.declared.Number.the-variants.{Accepted, TooLong, WorkspaceShort, PoolShort, NotUtf8, MissingCloseVariable, InvalidVariableChar, UnexpectedAtStart, UnexpectedAfterKey, EndedAfterKey, InvalidVariableName, DuplicateVariable, UnknownField, DuplicateField, UnterminatedQuote, UndefinedVariable, ContentTooLarge, OutputShort, NotRecords, DetailShort}
 use Rattle.answers.specs.declared.Name.{Name}
-use Rattle.answers.specs.declared.Detail.{Detail}
 use Rattle.answers.specs.declared.Answer.{Answer}
 
 -- document 01's number for each case
@@ -32,6 +31,11 @@ numberOf ContentTooLarge = 16
 numberOf OutputShort = 17
 numberOf NotRecords = 18
 numberOf DetailShort = 19
+
+-- an answer whose detail has no names
+abbrev pub plainAnswer : Number → ℕ → Answer
+plainAnswer number value =
+    record { number = number; detail = record { value = value; first = record { place = 0; length = 0 }; second = record { place = 0; length = 0 } } }
 
 -- a name is answered by its place and length in the pool
 pub record Names (n : Name) (t : Token) : Type 0 where

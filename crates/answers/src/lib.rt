@@ -1,6 +1,6 @@
 // Document 01, "Numbers returned": the answers as an enum, with the detail beside it.
 ghost use mathlib.Core.Path.{_≡_};
-ghost use Rattle.answers.specs.Tells.{numberOf};
+ghost use Rattle.answers.specs.Tells.{numberOf, plainAnswer};
 
 // Every answer of the reader, the listing and the exported calls, by document 01's numbers 0 to 19.
 pub enum Number {
@@ -42,6 +42,24 @@ pub struct Detail {
 pub struct Answer {
     pub number: Number,
     pub detail: Detail,
+}
+
+// An answer whose detail has no names.
+pub fn plain(number: Number, value: u64) -> Answer
+    ensures { λ r. ⌜ r ≡ plainAnswer number value ⌝ }
+{
+    let none = Name {
+        place: 0,
+        length: 0,
+    };
+    Answer {
+        number: number,
+        detail: Detail {
+            value: value,
+            first: none,
+            second: none,
+        },
+    }
 }
 
 // The document's number.

@@ -1,11 +1,11 @@
 -- The field of a key as a number, and the fields read so far as bits of a number (document 01, "Lines"). Assumes nothing.
-use Prim.Native.Nat.{ℕ, _/_, _%_, _^_, _≤_}
+use Prim.Native.Nat.{ℕ, _≤_}
 use mathlib.Core.Path.{_≡_}
 use mathlib.Core.Bool.{Bool, true, false}
 use mathlib.Core.List.{List}
 use mathlib.Core.Option.{Option, none, some}
-use lib.Dec.{eqb}
 use Rattle.rules.specs.Lines.{Field, field, fieldKeys, fieldAt}
+pub use Rattle.scan.specs.Bits.{bitAt}
 
 -- 0 for none
 unfoldable pub orZero : Option ℕ → ℕ
@@ -15,10 +15,6 @@ orZero (some f) = f
 -- the number of the key's field; 0 where it is none
 abbrev pub fieldNumber : List ℕ → ℕ
 fieldNumber key = orZero (field 1 fieldKeys key)
-
--- bit f of m
-abbrev pub bitAt : ℕ → ℕ → Bool
-bitAt m f = eqb (m / 2 ^ f % 2) 1
 
 unfoldable pub isSome : Option Field → Bool
 isSome none = false

@@ -1,4 +1,4 @@
-// The limits and the field numbers of document 01, as constants of named types; the field of a key; the fields already seen, as ten bits.
+// The limit of a text and the field numbers of document 01, as constants of named types; the field of a key; the fields already seen, as ten bits.
 ghost use mathlib.Core.Path.{_≡_};
 ghost use Prim.Native.Nat.{_≤_, _^_};
 ghost use lib.Bits.{bitOr};
@@ -11,9 +11,6 @@ pub struct Limit;
 impl Limit {
     // The most bytes that a text may have.
     pub const TEXT: usize = 65535;
-
-    // The most bytes that a value may have.
-    pub const VALUE: usize = 67108864;
 }
 
 pub struct Field;

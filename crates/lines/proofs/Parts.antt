@@ -8,16 +8,16 @@ use native.Mathlib.Nat.{add-zero}
 use native.Mathlib.Numerals.{add-one}
 use native.Mathlib.Omega.{arith}
 use lib.ListN.{length, getD, take, drop, set, length-set}
-use lib.Seq.{length-take-le, take-suc, drop-append-le, getD-set-same, getD-set-other}
+use lib.Seq.{length-take-le, take-suc, drop-append-le, getD-set-other}
 use Rattle.rules.specs.Bytes.{pick}
 use Rattle.rules.specs.Tokens.{Token, noName, isA}
 use Rattle.rules.specs.Lines.{Part, asPart, listed}
 use Rattle.scan.proofs.Lists.{cell-in, cell-past}
-use Rattle.tokens.specs.Entries.{decode, tokenAt, kindAt}
-use Rattle.tokens.proofs.TokenLaws.{length-decode, decode-same}
+use Rattle.tokens.specs.Entries.{decode, tokenAt}
+use Rattle.tokens.proofs.TokenLaws.{decode-same}
 use Rattle.workspace.specs.Map.{Dropped, partsOf, between, partsBetween, startsOf, endsOf, argumentsFrom}
-use Rattle.lines.specs.Rows.{hasParts, Keeps, RowWithin}
-use Rattle.lines.proofs.Tokens.{decode-take, between-drop, between-inside}
+use Rattle.lines.specs.Rows.{hasParts, Keeps}
+use Rattle.lines.proofs.Tokens.{decode-take, between-drop}
 
 pub parts-append : (ts us : List Token) → partsOf (ts ++ us) ≡ partsOf ts ++ partsOf us
 unfolding partsOf pick

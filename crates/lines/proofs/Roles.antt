@@ -1,15 +1,15 @@
 -- Laws of the roles of tokens in a list value. Assumes nothing.
-use Prim.Native.Nat.{ℕ, zero, suc, _+_, _≤_, _<_}
-use mathlib.Core.Path.{_≡_, refl, sym, _∙_, ap}
-use mathlib.Core.Bool.{Bool, true, false, _||_, _&&_}
-use mathlib.Core.List.{List, [], _∷_}
+use Prim.Native.Nat.{ℕ, _+_, _<_}
+use mathlib.Core.Path.{_≡_, sym, _∙_, ap}
+use mathlib.Core.Bool.{Bool, true, false}
+use mathlib.Core.List.{List}
 use native.Mathlib.Decide.{decLt}
 use native.Mathlib.Omega.{arith}
 use lib.Dec.{eqb}
 use lib.ListN.{drop}
-use borrow.Author.Tests.{eq-eqb, ne-eqb, eqb-true}
+use borrow.Author.Tests.{eq-eqb, ne-eqb}
 use Rattle.rules.specs.Bytes.{pick}
-use Rattle.rules.specs.Tokens.{Token, isA, Blank, SingleQuote, DoubleQuote, Backslash}
+use Rattle.rules.specs.Tokens.{Token, isA, Blank, Backslash}
 use Rattle.rules.specs.Lines.{Role, part, splits, opens, closes, escapes, isQuote, nextIs, roleOutside, roleInside, role}
 use Rattle.rules.proofs.BytesLaws.{false-true}
 use Rattle.tokens.specs.Entries.{decode, tokenAt, kindAt}

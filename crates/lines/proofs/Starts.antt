@@ -4,21 +4,18 @@ use mathlib.Core.Path.{_≡_, refl, sym, _∙_, ap}
 use mathlib.Core.Bool.{Bool, true, false}
 use mathlib.Core.List.{List, [], _∷_, _++_}
 use native.Mathlib.Decide.{decLt}
-use native.Mathlib.Numerals.{add-one}
 use native.Mathlib.Omega.{arith}
-use lib.Dec.{ltb}
 use lib.ListN.{length, getD, take, drop}
 use lib.Seq.{drop-append-le, length-take-le, take-suc, getD-drop}
 use borrow.Author.Tests.{lt-ltb, le-ltb}
 use Rattle.rules.specs.Bytes.{pick}
 use Rattle.rules.specs.Tokens.{Token, noName, isA, Text, Blank, Equals, Colon, NewLine}
-use Rattle.rules.specs.Numbers.{UnexpectedAtStart, UnexpectedAfterKey, EndedAfterKey, Result, refused, ok}
-use Rattle.rules.specs.Lines.{Ending, newline, endOfText, Line, Item, empty, lines, skipBlanks, dropLastBlank, trimmed, readLine, readAssignment, readField, endedAfterKey, afterKey, afterBlanks}
+use Rattle.rules.specs.Numbers.{UnexpectedAtStart, UnexpectedAfterKey, refused}
+use Rattle.rules.specs.Lines.{Ending, newline, endOfText, lines, skipBlanks, dropLastBlank, trimmed, readLine, readAssignment, readField, endedAfterKey, afterKey, afterBlanks}
 use Rattle.rules.proofs.LinesLaws.{Within, lines-newline, lines-end}
 use Rattle.tokens.specs.Entries.{decode, tokenAt, kindAt}
 use Rattle.tokens.proofs.TokenLaws.{length-decode, token-cons, token-end}
 use Rattle.workspace.specs.Map.{between}
-use Rattle.lines.specs.declared.line.LineStart.{LineStart}
 use Rattle.lines.specs.declared.line.LineStart.the-variants.{Empty, WrongStart, WrongAfter, Ended, Assigns, Gives}
 use Rattle.lines.specs.Line.{Skips, EndsLine, AtKey, Stands, endingAt, lineAt, Starts, EndsValue}
 use Rattle.lines.proofs.Tokens.{token-inside, kind-inside, kind-live, is-kind, no-kind, decode-take, between-drop, line-rest}

@@ -1,19 +1,17 @@
 -- Laws of tokens as they are read: parts of them, and kinds. Assumes nothing.
-use Prim.Native.Nat.{ℕ, zero, suc, _+_, _*_, _-_, _≤_, _<_}
+use Prim.Native.Nat.{ℕ, zero, suc, _-_, _≤_, _<_}
 use mathlib.Core.Path.{_≡_, refl, sym, _∙_, ap}
-use mathlib.Core.Bool.{Bool, true, false}
+use mathlib.Core.Bool.{true, false}
 use mathlib.Core.List.{List, [], _∷_, _++_}
 use native.Mathlib.Nat.{sub-zero}
 use native.Mathlib.Decide.{decLt}
-use native.Mathlib.Numerals.{add-one}
 use native.Mathlib.Omega.{arith}
-use lib.Dec.{eqb}
 use lib.ListN.{length, getD, take, drop, take-append-drop}
-use lib.Seq.{getD-take, length-take-le, take-nil, drop-nil, drop-append-le, take-suc}
+use lib.Seq.{getD-take, length-take-le, take-nil, drop-append-le}
 use borrow.Author.Tests.{eq-eqb, ne-eqb}
 use Rattle.rules.specs.Tokens.{Token, noName, isA}
-use Rattle.tokens.specs.Entries.{fromEntry, decode, tokenAt, kindAt, entryAt}
-use Rattle.tokens.proofs.TokenLaws.{length-decode, kind-at, kind-by, entry-past, token-cons, token-end, decode-same}
+use Rattle.tokens.specs.Entries.{fromEntry, decode, tokenAt, kindAt}
+use Rattle.tokens.proofs.TokenLaws.{length-decode, kind-at, kind-by, entry-past}
 use Rattle.workspace.specs.Map.{between}
 
 -- the first tokens of those

@@ -1,5 +1,5 @@
 -- Reading a list value token by token. Assumes nothing.
-use Prim.Native.Nat.{ℕ, zero, suc, _+_, _*_, _-_, _≤_, _<_}
+use Prim.Native.Nat.{ℕ, zero, suc, _+_, _*_, _≤_, _<_}
 use mathlib.Core.Path.{_≡_, refl, sym, _∙_, ap, ap₂}
 use mathlib.Core.Bool.{Bool, true, false}
 use mathlib.Core.List.{List, [], _∷_, _++_, append-nil}
@@ -10,17 +10,15 @@ use native.Mathlib.Omega.{arith}
 use lib.ListN.{length, getD, drop, set, length-set, List·getD-eq-default}
 use lib.Seq.{getD-drop, getD-set-same, getD-set-other}
 use Rattle.rules.specs.Bytes.{pick}
-use Rattle.rules.specs.Tokens.{Token, token, noName, isA}
-use Rattle.rules.specs.Numbers.{UnterminatedQuote, Result, refused, ok}
+use Rattle.rules.specs.Tokens.{Token, noName, isA}
+use Rattle.rules.specs.Numbers.{UnterminatedQuote, refused, ok}
 use Rattle.rules.specs.Lines.{Part, asPart, Role, part, splits, opens, closes, escapes, isQuote, role, listed, arguments, listValue}
-use Rattle.rules.proofs.BytesLaws.{false-true}
 use Rattle.scan.proofs.Lists.{cell-in}
-use Rattle.tokens.specs.Entries.{fromEntry, decode, tokenAt, kindAt, entryAt}
+use Rattle.tokens.specs.Entries.{decode, tokenAt, kindAt}
 use Rattle.tokens.proofs.TokenLaws.{length-decode, decode-same, kind-at, kind-by, token-by, entry-in, token-cons, token-end}
 use Rattle.workspace.specs.Map.{Dropped, partsBetween, startsOf, endsOf, argumentsFrom}
-use Rattle.lines.specs.declared.list.Listed.{Listed}
 use Rattle.lines.specs.declared.list.Listed.the-variants.{Arguments, Open}
-use Rattle.lines.specs.Rows.{isQuoteKind, hasParts, NoneDropped, Keeps, RowWithin, Reading, Bounds, Row, Flushable, Lists}
+use Rattle.lines.specs.Rows.{isQuoteKind, hasParts, NoneDropped, Keeps, RowWithin, Reading, Bounds, Row, Lists}
 use Rattle.lines.proofs.Tokens.{kind-past, is-kind, no-kind}
 use Rattle.lines.proofs.Roles.{quote-kind}
 use Rattle.lines.proofs.Parts.{parts-more, parts-dropped, parts-none, parts-same, has-parts-more, listed-some, listed-none, arguments-more, arguments-same, start-same, end-same, keeps-none, keeps-then, keeps-wider, keeps-token, keeps-start, keeps-end}
@@ -112,9 +110,6 @@ pub record Flushed (n from end i rows start : ℕ) (ws ws′ : List ℕ) (r : �
 module _ (n from end i rows start : ℕ) (any : Bool) (ws : List ℕ) (B : Bounds n from end i rows start ws) (w : Row from i rows any)
     (is-any : (pool : List ℕ) → any ≡ hasParts (partsBetween (decode end ws pool) start i))
     (within : (k : ℕ) → from ≤ k → k < from + rows → RowWithin n from i ws k) where
-  pub flush-asks : Flushable n from i rows start any ws
-  flush-asks = record { small = B .small; room = B .room; inside = omega (arith, B .on, B .inside); start-before = B .start-before; row = w }
-
   flushed-some : any ≡ true → Flushed n from end i rows start ws (set (set ws (5 * n + (from + rows)) start) (6 * n + (from + rows)) i) (rows + 1)
   flushed-some y =
       let h = w y in

@@ -5,9 +5,9 @@ use mathlib.Core.List.{List}
 use lib.Dec.{ltb}
 use lib.ListN.{length, drop}
 use Rattle.rules.specs.Bytes.{pick}
-use Rattle.rules.specs.Tokens.{Token, Text, NewLine}
-use Rattle.rules.specs.Numbers.{UnexpectedAtStart, UnexpectedAfterKey, EndedAfterKey, Result, refused, ok}
-use Rattle.rules.specs.Lines.{Ending, newline, endOfText, Line, Item, empty, skipBlanks, trimmed, readLine, readAssignment, readField}
+use Rattle.rules.specs.Tokens.{Text, NewLine}
+use Rattle.rules.specs.Numbers.{UnexpectedAtStart, UnexpectedAfterKey, EndedAfterKey, refused, ok}
+use Rattle.rules.specs.Lines.{Ending, newline, endOfText, Line, empty, skipBlanks, trimmed, readLine, readAssignment, readField}
 use Rattle.tokens.specs.Entries.{decode, tokenAt, kindAt}
 use Rattle.workspace.specs.Map.{between}
 use Rattle.lines.specs.declared.line.LineStart.{LineStart}

@@ -4,10 +4,9 @@ use mathlib.Core.Path.{_≡_}
 use mathlib.Core.Bool.{Bool, true, false, _||_}
 use mathlib.Core.List.{List, [], _∷_}
 use lib.Dec.{eqb}
-use lib.ListN.{length, getD, drop, set}
-use Rattle.rules.specs.Bytes.{pick}
-use Rattle.rules.specs.Tokens.{Token, SingleQuote, DoubleQuote}
-use Rattle.rules.specs.Numbers.{UnterminatedQuote, Result, refused, ok}
+use lib.ListN.{length, getD, drop}
+use Rattle.rules.specs.Tokens.{SingleQuote, DoubleQuote}
+use Rattle.rules.specs.Numbers.{UnterminatedQuote, refused, ok}
 use Rattle.rules.specs.Lines as Lines
 use Rattle.rules.specs.Lines.{Part, arguments, listValue}
 use Rattle.tokens.specs.Entries.{decode, tokenAt, kindAt}

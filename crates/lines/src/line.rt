@@ -1,9 +1,6 @@
 // One line: where it ends, how it starts, where its string value ends. All of it by the kinds of tokens alone.
-ghost use mathlib.Core.Path.{_≡_};
 ghost use Prim.Native.Nat.{_+_, _*_, _≤_, _<_};
 ghost use lib.ListN.{length};
-ghost use Rattle.rules.specs.Tokens.{Text};
-ghost use Rattle.tokens.specs.Entries.{kindAt};
 ghost use Rattle.lines.specs.Line.{Skips, EndsLine, AtKey, Starts, EndsValue};
 use tokens::TokenKind;
 use tokens::kind_at;

@@ -1,5 +1,5 @@
 // A list value (document 01, "Lines": fields 8 to 10): quotes, escapes, arguments.
-// A quote that opens or closes and a backslash that escapes are dropped: their kind becomes 0. Each argument gets a row, its first token and the token past it,
+// A quote that opens or closes and a backslash that escapes are dropped: that becomes their kind. Each argument gets a row, its first token and the token past it,
 // in the columns at 5n and 6n; the rows stand at the value's own tokens, from its first on, since there are never more arguments than tokens.
 ghost use mathlib.Core.Path.{_≡_};
 ghost use mathlib.Core.List.{List};
@@ -9,7 +9,7 @@ ghost use lib.ListN.{length, drop, set};
 ghost use Rattle.rules.specs.Bytes.{pick};
 ghost use Rattle.rules.specs.Tokens.{Token};
 ghost use Rattle.rules.specs.Lines.{nextIs, roleOutside, roleInside, role};
-ghost use Rattle.tokens.specs.Entries.{decode, tokenAt, kindAt};
+ghost use Rattle.tokens.specs.Entries.{decode, tokenAt};
 ghost use Rattle.lines.specs.Rows.{roleOf, isQuoteKind, NoneDropped, Keeps, Reading, Bounds, Row, Flushable, Lists};
 use tokens::TokenKind;
 use tokens::kind_at;
@@ -135,18 +135,18 @@ fn turn(ws: &mut [u32], n: usize, from: usize, end: usize, i: usize, s: ListStat
         Role::Opens => {
             t.quote = kind_at(ws, end, i);
             t.opener = i;
-            ws[4 * i] = 0;
+            ws[4 * i] = TokenKind::DROPPED;
             t
         }
         Role::Closes => {
             t.quote = 0;
             t.opener = end;
-            ws[4 * i] = 0;
+            ws[4 * i] = TokenKind::DROPPED;
             t
         }
         Role::Escapes => {
             t.escaped = true;
-            ws[4 * i] = 0;
+            ws[4 * i] = TokenKind::DROPPED;
             t
         }
     }

@@ -1,22 +1,21 @@
 -- The listing's answers, from what the lines need. Assumes nothing.
 use Prim.Native.Nat.{ℕ, _<_, _≤_}
-use mathlib.Core.Path.{_≡_, refl, ap, sym}
+use mathlib.Core.Path.{_≡_, refl}
 use mathlib.Core.List.{List}
 use mathlib.Core.Option.{Option, none, some}
 use native.Mathlib.Omega.{arith}
 use lib.ListN.{length}
 use borrow.Author.Tests.{lt-ltb, le-ltb}
-use Rattle.rules.specs.Tokens.{Token, noName, token}
 use Rattle.rules.specs.Numbers as Rules
 use Rattle.rules.specs.Listing.{linesOfRecords, listing, Listed}
-use Rattle.answers.specs.declared.Number.{Number}
 use Rattle.answers.specs.declared.Number.the-variants.{Accepted, OutputShort, NotRecords}
 use Rattle.answers.specs.declared.Answer.{Answer}
-use Rattle.answers.specs.Tells.{Tells, Names, numberOf}
+use Rattle.answers.specs.Tells.{Tells, plainAnswer}
+use Rattle.answers.proofs.Telling.{tells-plain}
 use Rattle.scan.specs.Stores.{puts}
 use Rattle.scan.proofs.Stores.{puts-front}
 use Rattle.listing.specs.declared.lines.Measured.the-variants.{Need, Broken}
-use Rattle.listing.specs.Shown.{measured, textOf, Fitting, plainAnswer}
+use Rattle.listing.specs.Shown.{measured, textOf, Fitting}
 
 -- what the code answers and leaves in its output is what the definition says
 pub record Says (a : Answer) (output : List ℕ) (l : Listed) : Type 0 where
@@ -32,20 +31,6 @@ need-some : (o : Option (List ℕ)) (n : ℕ) → measured o ≡ Need n → (tex
 unfolding measured
 need-some none n e = let z : _≡_ {A = ℕ} 0 1 = cc in absurd (omega arith)
 need-some (some text) n e = let z : length text ≡ n = cc in (text, refl, z)
-
-no-name : (t : Token) → t ≡ noName → Names (record { place = 0; length = 0 }) t
-unfolding noName token
-no-name t e = rw e (record { is-place = refl; is-length = refl })
-
--- an answer without names tells its number and its value
-tells-plain : (n : Number) (value : ℕ) (b : Rules.Answer) → numberOf n ≡ Rules.number b → Rules.detail b ≡ Rules.details value noName noName → Tells (plainAnswer n value) b
-unfolding Rules.details
-tells-plain n value b e d = record {
-  is-number = e;
-  is-value = sym (ap (λ (x : Rules.Detail). x .value) d);
-  is-first = no-name (Rules.detail b .first) (ap (λ (x : Rules.Detail). x .first) d);
-  is-second = no-name (Rules.detail b .second) (ap (λ (x : Rules.Detail). x .second) d);
-}
 
 module _ (records output : List ℕ) where
   pub says-broken : measured (linesOfRecords records) ≡ Broken → Says (plainAnswer NotRecords 0) output (listing records output)

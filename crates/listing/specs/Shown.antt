@@ -7,8 +7,6 @@ use lib.ListN.{length}
 use Rattle.rules.specs.Bytes.{bytes}
 use Rattle.rules.specs.Listing.{decimal}
 use Rattle.scan.specs.Stores.{puts}
-use Rattle.answers.specs.declared.Number.{Number}
-use Rattle.answers.specs.declared.Answer.{Answer}
 use Rattle.listing.specs.declared.lines.Measured.{Measured}
 use Rattle.listing.specs.declared.lines.Measured.the-variants.{Need, Broken}
 
@@ -40,8 +38,3 @@ pub record Fitting (o : Option (List ℕ)) (output : List ℕ) : Type 0 where
   pub text : List ℕ
   pub are-lines : o ≡ some text
   pub fits : length text ≤ length output
-
--- an answer whose detail has no names
-abbrev pub plainAnswer : Number → ℕ → Answer
-plainAnswer number value =
-    record { number = number; detail = record { value = value; first = record { place = 0; length = 0 }; second = record { place = 0; length = 0 } } }

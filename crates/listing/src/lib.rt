@@ -6,25 +6,7 @@ pub mod lines;
 ghost use mathlib.Core.Path.{_≡_};
 ghost use Rattle.rules.specs.Listing as Rules;
 ghost use Rattle.answers.specs.Tells.{Tells};
-ghost use Rattle.listing.specs.Shown.{plainAnswer};
-
-// An answer whose detail has no names.
-fn plain(number: answers::Number, value: u64) -> answers::Answer
-    ensures { λ r. ⌜ r ≡ plainAnswer number value ⌝ }
-{
-    let none = answers::Name {
-        place: 0,
-        length: 0,
-    };
-    answers::Answer {
-        number: number,
-        detail: answers::Detail {
-            value: value,
-            first: none,
-            second: none,
-        },
-    }
-}
+use answers::plain;
 
 // The lines of the records, to the front of the output: 18 where the bytes break the form, then 17 with the need where the
 // output is short; both write nothing. On 0 nothing past the lines is touched.

@@ -3,7 +3,6 @@ pub mod Advances
 pub mod FieldSums
 pub mod States
 pub mod Turns
-pub mod Bits
 pub mod Waits
 pub mod PassLaws
 pub mod RunLaws

@@ -15,11 +15,12 @@ use Rattle.rules.proofs.BytesLaws.{false-true}
 use Rattle.rules.proofs.Lengths.{Sum, add, Lens, passLens, lens-valued, lens-missing}
 use Rattle.workspace.specs.Map.{lengthsOf, rulesIn}
 use Rattle.passes.specs.Visits.{State, zeros, passFrom}
-use Rattle.passes.specs.Blocks.{bitAt, Block, Rests, Leaves, Turns}
+use Rattle.scan.specs.Bits.{bitAt}
+use Rattle.passes.specs.Blocks.{Block, Rests, Leaves, Turns}
 use Rattle.passes.specs.Passes.{Covers, Turning, Passes}
 use Rattle.passes.proofs.States.{few, same-rules, state-then}
 use Rattle.passes.proofs.Turns.{rules-count, rules-past}
-use Rattle.passes.proofs.Bits.{or-off, no-bit}
+use Rattle.scan.proofs.Bits.{or-off, no-bit}
 use Rattle.passes.proofs.Waits.{rests-missing, rests-here, rests-there}
 use Rattle.passes.specs.declared.blocks.Turned.the-variants as Tur
 use Rattle.passes.specs.declared.Passed.the-variants as Pas

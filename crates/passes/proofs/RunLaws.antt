@@ -18,7 +18,7 @@ use Rattle.passes.specs.Visits.{State, zeros, Stuck, meaning}
 use Rattle.passes.specs.Passes.{Turning, Passes, countLens, passCount, Ready, Runs, keptOf, columns, Resolves}
 use Rattle.passes.proofs.States.{few, column-length, rule-rest, same-rules, state-here, state-then}
 use Rattle.passes.proofs.Turns.{zeros-replicate, rules-count}
-use Rattle.passes.proofs.Bits.{all-bits}
+use Rattle.scan.proofs.Bits.{all-bits}
 use Rattle.passes.proofs.Waits.{rests-here}
 use Rattle.passes.proofs.PassLaws.{block-bit}
 use Rattle.rules.proofs.BytesLaws.{false-true}

@@ -18,10 +18,11 @@ use Rattle.workspace.specs.Map.{ranksOf, lengthsOf}
 use Rattle.workspace.proofs.Frames.{column-low}
 use Rattle.passes.specs.Sums.{sizeOf}
 use Rattle.passes.specs.Visits.{stopsOf, sumsOf, resumeAt, endAt, rule, restOf, State, Steps, Beyond}
-use Rattle.passes.specs.Blocks.{bitAt, waitersOf, markedAt, Rests, Turns}
+use Rattle.scan.specs.Bits.{bitAt}
+use Rattle.passes.specs.Blocks.{waitersOf, markedAt, Rests, Turns}
 use Rattle.passes.proofs.Advances.{add-stopped, extends-refl}
 use Rattle.passes.proofs.States.{dec-eq, few, column-length, column-above, column-at, same-tokens, state-then}
-use Rattle.passes.proofs.Bits.{or-left, or-right, own-bit}
+use Rattle.scan.proofs.Bits.{or-left, or-right, own-bit}
 use Rattle.passes.specs.declared.visits.Visited.the-variants as Vis
 use Rattle.passes.specs.declared.blocks.Turned.the-variants as Tur
 

@@ -1,24 +1,21 @@
 -- Blocks of variables, and which variables wait for a value. Assumes nothing.
-use Prim.Native.Nat.{ℕ, suc, _+_, _*_, _/_, _%_, _^_, _≤_, _<_}
+use Prim.Native.Nat.{ℕ, suc, _+_, _*_, _^_, _≤_, _<_}
 use mathlib.Core.Path.{_≡_}
 use mathlib.Core.Bool.{Bool, true, false}
 use mathlib.Core.List.{List}
 use lib.Bits.{bitOr}
-use lib.Dec.{eqb, ltb}
+use lib.Dec.{ltb}
 use lib.ListN.{getD, take, drop, set}
 use Rattle.rules.specs.Bytes.{pick}
 use Rattle.rules.specs.Tokens.{Token}
 use Rattle.rules.proofs.Lengths.{Lens}
 use Rattle.tokens.specs.Entries.{decode, tokenAt}
+use Rattle.scan.specs.Bits.{bitAt}
 use Rattle.workspace.specs.Map.{ranksOf, lengthsOf}
 use Rattle.passes.specs.Sums.{sizeOf}
 use Rattle.passes.specs.Visits.{stopsOf, endAt, zeros, passFrom}
 use Rattle.passes.specs.declared.blocks.Turned.{Turned}
 use Rattle.passes.specs.declared.blocks.Turned.the-variants as Tur
-
--- bit b of m
-abbrev pub bitAt : ℕ → ℕ → Bool
-bitAt m b = eqb (m / 2 ^ b % 2) 1
 
 -- the variable of rank t stands in block b, of w variables
 abbrev pub Block : ℕ → ℕ → ℕ → Type 0

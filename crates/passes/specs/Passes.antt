@@ -9,7 +9,8 @@ use Rattle.rules.proofs.Lengths.{Lens, passLens, stopped, passed, Settles, sett
 use Rattle.scan.specs.Stores.{puts}
 use Rattle.workspace.specs.Map.{lengthsOf, rulesIn}
 use Rattle.passes.specs.Visits.{State, zeros, passFrom, Stuck, meaning}
-use Rattle.passes.specs.Blocks.{bitAt, Block, Rests}
+use Rattle.scan.specs.Bits.{bitAt}
+use Rattle.passes.specs.Blocks.{Block, Rests}
 use Rattle.passes.specs.declared.Passed.{Passed}
 use Rattle.passes.specs.declared.Passed.the-variants as Pas
 use Rattle.passes.specs.declared.visits.Settled.{Settled}

@@ -28,7 +28,7 @@ pub fn size_at(ws: &[u32], pool: &[u8], n: usize, count: usize, v: usize, j: usi
     ensures { λ r. ⌜ r ≡ sizeAt n count v (now (ws .entry)) (now (pool .entry)) j ⌝ }
 {
     let kind = kind_at(ws, count, j);
-    if kind == 0 {
+    if kind == TokenKind::DROPPED {
         return 1;
     }
     if kind == TokenKind::VARIABLE {

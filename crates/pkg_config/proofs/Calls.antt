@@ -1,21 +1,19 @@
 -- Laws of the call: each of the five ways that it can go. Assumes nothing.
-use Prim.Native.Nat.{ℕ, zero, suc, _+_, _*_, _<_, _≤_}
+use Prim.Native.Nat.{ℕ, _+_, _*_, _<_, _≤_}
 use mathlib.Core.Path.{_≡_, refl, ap, sym, _∙_, subst}
 use mathlib.Core.Bool.{Bool, true, false}
-use mathlib.Core.List.{List, [], _∷_, _++_}
-use native.Mathlib.Omega.{arith}
+use mathlib.Core.List.{List}
 use lib.ListN.{length, drop, replicate, length-replicate}
 use lib.Dec.{ltb}
 use Rattle.rules.specs.Bytes.{overwrite}
 use Rattle.rules.specs.Tokens.{token, noName}
 use Rattle.rules.specs.Numbers as Rules
-use Rattle.rules.specs.Numbers.{number, detail, noDetail, details, refusalNumber, refusalDetail, Result, refused, ok}
+use Rattle.rules.specs.Numbers.{number, detail, noDetail, details, Result, refused, ok}
 use Rattle.rules.specs.Utf8.{wellFormed}
-use Rattle.rules.specs.Lexing.{tokens}
 use Rattle.rules.specs.Reading.{reading}
 use Rattle.rules.specs.Reader as Reader
-use Rattle.rules.specs.Reader.{Buffers, Outcome, room, readBuffers, zeroed, poolAfter, written, untouched}
-use Rattle.rules.proofs.CallLaws.{Ready, read-long, read-space, read-pool, read-utf8, read-on, written-short, written-all}
+use Rattle.rules.specs.Reader.{Buffers, room, readBuffers, zeroed, written, untouched}
+use Rattle.rules.proofs.CallLaws.{read-long, read-space, read-pool, read-utf8, read-on}
 use Rattle.scan.proofs.Stores.{overwrite-cover}
 use Rattle.answers.specs.declared.Number.{Number}
 use Rattle.answers.specs.declared.Number.the-variants as N
@@ -23,7 +21,7 @@ use Rattle.answers.specs.declared.Name.{Name}
 use Rattle.answers.specs.declared.Detail.{Detail}
 use Rattle.answers.specs.declared.Answer.{Answer}
 use Rattle.answers.specs.Tells.{numberOf, Names, Tells}
-use Rattle.pkg_config.specs.Call.{lent, Reads, Ends, Lent, ReadsText}
+use Rattle.pkg_config.specs.Call.{lent, Reads, ReadsText}
 
 abbrev pub noNameOf : Name
 noNameOf = record { place = 0; length = 0 }

@@ -1,28 +1,27 @@
 -- Laws of reading a text: lexing, then lines, then the stages after them. Assumes nothing.
-use Prim.Native.Nat.{ℕ, zero, suc, _+_, _*_, _-_, _<_, _≤_}
+use Prim.Native.Nat.{ℕ, suc, _+_, _*_, _-_, _<_, _≤_}
 use mathlib.Core.Path.{_≡_, refl, ap, sym, _∙_, subst}
-use mathlib.Core.Bool.{Bool, true, false}
-use mathlib.Core.List.{List, [], _∷_, _++_}
+use mathlib.Core.Bool.{true, false}
+use mathlib.Core.List.{List}
 use native.Mathlib.Omega.{arith}
-use lib.ListN.{length, getD, take, drop}
+use lib.ListN.{length, getD, drop}
 use lib.Seq.{drop-drop, getD-take, getD-drop}
 use borrow.Author.Tests.{le-leb, lt-leb}
 use Rattle.rules.specs.Bytes.{overwrite}
-use Rattle.rules.specs.Tokens.{Token, noName}
+use Rattle.rules.specs.Tokens.{Token}
 use Rattle.rules.specs.Numbers as Rules
-use Rattle.rules.specs.Numbers.{Refusal, Lex, number, detail, details, noDetail, lexNumber, codePointOf, refusalNumber, refusalDetail, Result, refused, ok, _>>=_}
-use Rattle.rules.specs.Lexing.{tokens, poolOf}
+use Rattle.rules.specs.Numbers.{Refusal, Lex, number, detail, details, lexNumber, codePointOf, refusalNumber, refusalDetail, Result, refused, ok, _>>=_}
+use Rattle.rules.specs.Lexing.{tokens}
 use Rattle.rules.specs.Lines.{File, noLines, lines, readLines, isString}
 use Rattle.rules.specs.Reading.{file, recordsOfFile, reading}
-use Rattle.rules.specs.Reader as Reader
-use Rattle.rules.specs.Reader.{poolAfter, written}
+use Rattle.rules.specs.Reader.{poolAfter}
 use Rattle.scan.proofs.Stores.{drop-overwrite}
 use Rattle.answers.specs.declared.Number.{Number}
 use Rattle.answers.specs.declared.Number.the-variants as N
 use Rattle.answers.specs.declared.Name.{Name}
 use Rattle.answers.specs.declared.Answer.{Answer}
-use Rattle.answers.specs.Tells.{Names, Tells}
-use Rattle.tokens.specs.Entries.{decode, tokenAt, entries}
+use Rattle.answers.specs.Tells.{Tells}
+use Rattle.tokens.specs.Entries.{decode, entries}
 use Rattle.tokens.proofs.TokenLaws.{length-entries}
 use Rattle.lexer.specs.Lexes as Lexes
 use Rattle.lexer.specs.Lexes.{errorOf}
@@ -31,19 +30,19 @@ use Rattle.lexer.specs.declared.LexError.the-variants as E
 use Rattle.lexer.specs.declared.Lexed.{Lexed}
 use Rattle.lexer.specs.declared.Lexed.the-variants as L
 use Rattle.lexer.proofs.Outcomes.{lexed-back, count-fits, long-ws, when-tokens, when-refused}
-use Rattle.workspace.specs.Map.{Room, keysOf, startsOf, endsOf, variablesIn, fileIn, Holds}
+use Rattle.workspace.specs.Map.{Room, keysOf, fileIn}
 use Rattle.workspace.proofs.Files.{held-file}
 use Rattle.workspace.proofs.Links.{keys-length}
 use Rattle.names.proofs.Places.{all-at}
-use Rattle.parser.specs.Parse.{VariableWithin, FieldWithin, EntryWithin, Within, Parsable, FileHeld, Parses, Beyond}
+use Rattle.parser.specs.Parse.{VariableWithin, FieldWithin, EntryWithin, Parsable, FileHeld, Parses, Beyond}
 use Rattle.parser.specs.declared.Parsed.{Parsed}
 use Rattle.parser.specs.declared.Parsed.the-variants as P
 use Rattle.parser.proofs.Lexed.{lexed-fresh}
 use Rattle.writer.specs.Tables.{tablesIn}
 use Rattle.records.specs.Contents.{fieldsOf, Spans}
-use Rattle.pkg_config.specs.Call.{lent, Ends, Lent, ReadsText, linesRead, lexAnswer}
+use Rattle.pkg_config.specs.Call.{Ends, Lent, ReadsText, linesRead, lexAnswer}
 use Rattle.pkg_config.specs.Stages.{Filed}
-use Rattle.pkg_config.proofs.Calls.{noNameOf, no-names, bareOf, same-answer}
+use Rattle.pkg_config.proofs.Calls.{noNameOf, no-names, bareOf}
 use Rattle.pkg_config.proofs.Stages.{answerOf, ends-refused, ends-on}
 
 pub bare-is : (k : Number) (a b : Name) (r : Answer) → a ≡ noNameOf → b ≡ noNameOf → r ≡ answerOf k 0 a b → r ≡ bareOf k

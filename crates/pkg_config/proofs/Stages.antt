@@ -2,27 +2,24 @@
 use Prim.Native.Nat.{ℕ, zero, suc, _+_, _*_, _-_, _%_, _<_, _≤_}
 use mathlib.Core.Path.{_≡_, refl, ap, sym, _∙_, subst}
 use mathlib.Core.Bool.{Bool, true, false}
-use mathlib.Core.List.{List, [], _∷_, _++_, map}
+use mathlib.Core.List.{List, [], _∷_, map}
 use mathlib.Core.Option.{Option, none, some}
 use native.Mathlib.Omega.{arith}
 use lib.ListN.{length, getD, take, drop, length-take}
 use lib.Seq.{drop-drop}
 use lib.Dec.{leb, ltb}
-use borrow.Author.Tests.{lt-ltb, le-ltb}
 use Rattle.rules.specs.Bytes.{pick, overwrite}
 use Rattle.rules.specs.Tokens.{Token, token, noName}
 use Rattle.rules.specs.Numbers as Rules
 use Rattle.rules.specs.Numbers.{Refusal, InVariable, InField, UndefinedVariable, ContentTooLarge, number, detail, details, refusalNumber, refusalDetail, fieldOf, variableOf, Result, refused, ok, _>>=_}
-use Rattle.rules.specs.Lines.{Assignment, Field, File, fieldAt}
-use Rattle.rules.specs.Variables.{Found, Resolved, tooLarge, lacks, resolved, resolve, rulesOf, keyAt, resolveVariables}
+use Rattle.rules.specs.Lines.{Assignment, Field, File}
+use Rattle.rules.specs.Variables.{Found, Resolved, resolved, resolve, keyAt, resolveVariables}
 use Rattle.rules.specs.Fields.{Present, resolveFields}
 use Rattle.rules.specs.Records.{records}
 use Rattle.rules.specs.Reading.{recordsOfFile}
-use Rattle.rules.specs.Reader.{Buffers, Outcome, written}
+use Rattle.rules.specs.Reader.{written}
 use Rattle.rules.proofs.CallLaws.{written-short, written-all}
-use Rattle.rules.proofs.Lengths.{entries}
 use Rattle.rules.proofs.RefusalLaws.{afterVariables}
-use Rattle.rules.proofs.TableLaws.{Sorted, ok-one, refused-ok}
 use Rattle.scan.specs.Stores.{puts}
 use Rattle.scan.proofs.Stores.{puts-front, take-puts, drop-puts, length-puts}
 use Rattle.answers.specs.declared.Number.{Number}
@@ -32,18 +29,18 @@ use Rattle.answers.specs.declared.Answer.{Answer}
 use Rattle.answers.specs.Tells.{numberOf, Names, Tells}
 use Rattle.tokens.specs.Entries.{decode, tokenAt, fromEntry, entryAt, placeAt}
 use Rattle.tokens.proofs.TokenLaws.{token-by, place-at, length-decode}
-use Rattle.workspace.specs.Map.{Room, keysOf, startsOf, endsOf, ranksOf, lengthsOf, variableAt, variablesIn, rulesIn, fieldIn, fieldsIn, fileIn, Looked, Holds}
-use Rattle.workspace.proofs.Frames.{Kept, take-low, column-low, decode-low, variables-low, field-low, keys-kept, variables-kept, rules-kept, looked-kept}
-use Rattle.workspace.proofs.Links.{rules-looked, keys-length}
+use Rattle.workspace.specs.Map.{Room, keysOf, startsOf, endsOf, lengthsOf, variableAt, variablesIn, rulesIn, fieldIn, fieldsIn, fileIn, Looked, Holds}
+use Rattle.workspace.proofs.Frames.{Kept, take-low, column-low, decode-low, variables-low, field-low, variables-kept, rules-kept, looked-kept}
+use Rattle.workspace.proofs.Links.{keys-length}
 use Rattle.workspace.proofs.Files.{file-fields}
 use Rattle.names.specs.Store.{Lookable, ranks}
-use Rattle.names.proofs.Lookups.{length-ranks, looked-up, looked-variables}
+use Rattle.names.proofs.Lookups.{length-ranks, looked-up}
 use Rattle.passes.specs.Passes.{Resolves}
 use Rattle.passes.specs.declared.visits.Settled.{Settled}
 use Rattle.passes.specs.declared.visits.Settled.the-variants as Set
 use Rattle.passes.proofs.Corollary.{Says, resolve-keeps, resolve-long, resolve-says}
-use Rattle.writer.specs.Tables.{Tables, tablesIn, valuesOf}
-use Rattle.writer.specs.Writing.{Ready, Apart}
+use Rattle.writer.specs.Tables.{tablesIn}
+use Rattle.writer.proofs.Uses.{found-in, values-are, ready}
 use Rattle.records.specs.Contents.{fieldsOf, presents, Spans}
 use Rattle.records.specs.Recording.{Fieldable, Recorded}
 use Rattle.records.specs.Measuring.{measureIn}
@@ -221,15 +218,6 @@ fields-same n count ws ws′ pool h (suc k) f = go (fieldIn n count ws pool f) r
     go none q ih = rw (h f ∙ q, q, fieldsIn) ih
     go (some g) q ih = rw (h f ∙ q, q, fieldsIn) (ap (λ (l : List Field). g ∷ l) ih)
 
-resolve-of : (vs : List Assignment) (vals : Found) → resolveVariables vs ≡ ok vals → resolve (rulesOf vs vs) ≡ resolved vals
-unfolding resolveVariables
-resolve-of vs vals e = go (resolve (rulesOf vs vs)) refl
-  where
-    go : (x : Resolved) → resolve (rulesOf vs vs) ≡ x → resolve (rulesOf vs vs) ≡ resolved vals
-    go (tooLarge i) q = absurd (refused-ok (rw (q, resolveVariables) at e))
-    go (lacks i n) q = absurd (refused-ok (rw (q, resolveVariables) at e))
-    go (resolved w) q = let z : w ≡ vals = ok-one (rw (q, resolveVariables) at e) in q ∙ ap resolved z
-
 file-refused : (x : File) (r : Refusal) → resolveVariables (x .variables) ≡ refused r → recordsOfFile x ≡ refused r
 unfolding recordsOfFile _>>=_
 file-refused x r e = rw (e, recordsOfFile, _>>=_) refl
@@ -363,22 +351,12 @@ module _ (n count v : ℕ) (ws pool : List ℕ) (F : Filed n count v ws pool) wh
 
         resolves : resolve (rulesIn n count v ws₂ pool) ≡ resolved (settled-says .0)
         resolves =
-            ap resolve (rules-kept n count v ws₁ ws₂ pool (F .room .tokens) few keeps ∙ rules-looked n count ws₁ pool (variablesIn n count v ws₁ pool) is-looked v)
-            ∙ resolve-of (variablesIn n count v ws₁ pool) (settled-says .0) (settled-says .1)
-
-        values-are : tablesIn n count v ws₂ pool .values ≡ settled-says .0
-        unfolding valuesOf
-        values-are = ap valuesOf resolves
+            ap resolve (rules-kept n count v ws₁ ws₂ pool (F .room .tokens) few keeps) ∙ found-in n count v ws₁ pool (settled-says .0) is-looked (settled-says .1)
 
         pub is-solved : Solved n count v ws₂ pool
-        unfolding rulesIn
         is-solved = record {
           room = room-settled;
-          ready = record {
-            resolves = resolves ∙ ap resolved (sym values-are);
-            lengths = settled-says .2 ∙ ap entries (sym values-are);
-            in-table = λ j h. rw (same-ends, same-keys) (F .in-table j h);
-          };
+          ready = ready n count v ws₂ pool (settled-says .0) resolves (settled-says .2) (λ j h. rw (same-ends, same-keys) (F .in-table j h));
           looked = subst (λ (vs : List Assignment). Looked n count ws₂ pool vs) (sym same-variables) (looked-kept n count v ws₁ ws₂ pool (F .room .tokens) few keeps (variablesIn n count v ws₁ pool) is-looked);
           spans = spans-kept;
         }
@@ -388,5 +366,5 @@ module _ (n count v : ℕ) (ws pool : List ℕ) (F : Filed n count v ws pool) wh
         ends-resolved out ws₃ out′ a h =
             let x : recordsOfFile (fileIn n count v ws pool) ≡ afterVariables (fileIn n count v ws₂ pool) (tablesIn n count v ws₂ pool .values) =
             file-after (fileIn n count v ws pool) (settled-says .0) (ap resolveVariables file-variables ∙ settled-says .1)
-            ∙ ap (λ (f : File). afterVariables f (settled-says .0)) (sym same-file) ∙ ap (afterVariables (fileIn n count v ws₂ pool)) (sym values-are) in
+            ∙ ap (λ (f : File). afterVariables f (settled-says .0)) (sym same-file) ∙ ap (afterVariables (fileIn n count v ws₂ pool)) (sym (values-are n count v ws₂ pool (settled-says .0) resolves)) in
             ends-on n (afterVariables (fileIn n count v ws₂ pool) (tablesIn n count v ws₂ pool .values)) (recordsOfFile (fileIn n count v ws pool)) ws ws₂ ws₃ out out′ a x past-kept h

@@ -11,7 +11,6 @@ use Rattle.writer.specs.Tables.{tablesIn}
 use Rattle.writer.specs.Writing.{Ready}
 use Rattle.records.specs.Contents.{fieldsOf, Spans}
 use Rattle.records.specs.Measuring.{measureIn}
-use Rattle.records.specs.declared.measure.Measured.{Measured}
 use Rattle.records.specs.declared.measure.Measured.the-variants.{Need}
 
 -- the lines are read: workspace and pool hold a file

@@ -7,7 +7,6 @@ use native.Mathlib.Decide.{ℕ-discrete}
 use lib.ListN.{length}
 use borrow.Author.Tests.{ne-eqb, lt-ltb, le-ltb, le-leb, lt-leb}
 use Rattle.rules.specs.Bytes.{pick}
-use Rattle.rules.specs.Lexing as L
 use Rattle.lexer.specs.Pieces.{lexemeAt, shown, Shows}
 use Rattle.reader_walk.specs.Steps.{told, stepAt, endOf, endAt}
 use Rattle.reader_walk.specs.declared.Step.{Step}
@@ -34,9 +33,9 @@ module _ (s : List ℕ) (at kind from len next : ℕ) (h : at < length s) (x : S
       m = omega arith
 
       go : Dec (kind ≡ 1) → Dec (kind ≡ 2) → told at (shown s at kind from len next) ≡ Lexeme kind next
-      go (yes p) q = rw (p, m)
-      go (no p) (yes q) = rw (q, m)
-      go (no p) (no q) = rw (ne-eqb kind 1 p, ne-eqb kind 2 q, le-leb kind 9 l, m)
+      go (yes p) q = rw p (ap (Lexeme 1) m)
+      go (no p) (yes q) = rw q (ap (Lexeme 2) m)
+      go (no p) (no q) = rw (ne-eqb kind 1 p, ne-eqb kind 2 q, le-leb kind 9 l) (ap (Lexeme kind) m)
 
 -- the place past it
 module _ (s : List ℕ) (at : ℕ) (p : Step) (e : p ≡ stepAt s at) where

@@ -6,13 +6,13 @@ use mathlib.Core.List.{List, [], _++_, append-assoc, append-nil}
 use native.Mathlib.Omega.{arith}
 use lib.ListN.{length, getD, take, replicate, length-append}
 use borrow.Author.Tests.{le-leb, lt-leb, leb-true, leb-false}
-use Rattle.rules.specs.Bytes.{toLittle, pick, overwrite}
+use Rattle.rules.specs.Bytes.{toLittle, pick}
 use Rattle.rules.specs.Lines.{isString}
 use Rattle.rules.specs.Variables.{limit, Expansion}
 use Rattle.rules.specs.Records.{recordBytes, argumentRecords, recordsOf, records}
 use Rattle.rules.proofs.ExpandLaws.{View, view}
 use Rattle.scan.specs.Stores.{puts}
-use Rattle.scan.proofs.Stores.{length-puts, puts-puts, puts-front}
+use Rattle.scan.proofs.Stores.{length-puts, puts-puts}
 use Rattle.scan.proofs.Littles.{length-little}
 use Rattle.writer.specs.Tables.{Tables, tablesIn, pieces, valueBetween}
 use Rattle.writer.specs.Writing.{Remembered, Apart, Written}
@@ -267,7 +267,3 @@ module _ {n count v : ℕ} {pool : List ℕ} {t : Tables} {entries ws₀ out₀ 
           low = omega (arith, L .low);
           within = omega arith;
         }
-
--- where they fit, the records are an overwritten front
-pub recorded-front : {n : ℕ} {ws out bs ws′ out′ : List ℕ} {end : ℕ} → Recorded n ws out bs ws′ out′ end → length bs ≤ length out → out′ ≡ overwrite bs out
-recorded-front {out = out} {bs = bs} r h = r .bytes ∙ puts-front out bs h

@@ -11,11 +11,10 @@ use lib.Seq.{getD-take, getD-drop}
 use borrow.Author.Tests.{leb-true, leb-false}
 use Rattle.rules.specs.Bytes.{pick, toLittle}
 use Rattle.rules.specs.Tokens.{Token}
-use Rattle.rules.specs.Numbers.{Refusal, WhileResolving, InField, UndefinedVariable, ContentTooLarge, Result, refused, ok, _>>=_}
+use Rattle.rules.specs.Numbers.{WhileResolving, InField, UndefinedVariable, ContentTooLarge, Result, refused, ok, _>>=_}
 use Rattle.rules.specs.Lines.{Part, isString, File, fieldAt}
-use Rattle.rules.specs.Variables.{Expansion, large, missing, expand, lookUp, Found, resolveVariables}
-use Rattle.rules.specs.Fields.{expanded, Content, resolveParts, resolveArguments, resolveTemplate, fieldsFrom, resolveFields, Present}
-use Rattle.rules.specs.Reading.{recordsOfFile}
+use Rattle.rules.specs.Variables.{Expansion, large, missing, expand, lookUp}
+use Rattle.rules.specs.Fields.{expanded, Content, resolveParts, resolveArguments, resolveTemplate, fieldsFrom, resolveFields}
 use Rattle.rules.specs.Records.{recordBytes, argumentRecords, recordsOf, records}
 use Rattle.scan.proofs.Littles.{length-little}
 use Rattle.tokens.specs.Entries.{decode, tokenAt}
@@ -49,19 +48,6 @@ string-number f q = leb-true f 7 q
 list-number : (f : ℕ) → isString f ≡ false → 7 < f
 unfolding isString
 list-number f q = leb-false f 7 q
-
--- the stages one after another
-of-file : (file : File) (vals : Found) → resolveVariables (file .variables) ≡ ok vals → recordsOfFile file ≡ (resolveFields file vals >>= λ ps. ok (records ps))
-unfolding recordsOfFile _>>=_
-of-file file vals e = rw e refl
-
-fields-ok : (r : Result (List Present)) (ps : List Present) → r ≡ ok ps → (r >>= λ qs. ok (records qs)) ≡ ok (records ps)
-unfolding _>>=_
-fields-ok r ps e = rw e refl
-
-fields-refused : (r : Result (List Present)) (x : Refusal) → r ≡ refused x → (r >>= λ qs. ok (records qs)) ≡ refused x
-unfolding _>>=_
-fields-refused r x e = rw e refl
 
 -- the workspace holds the file, its references are looked up, and its variables are resolved
 module _ (n count v : ℕ) (ws pool : List ℕ) (file : File) (room : Room n count v ws) (ready : Ready count v (tablesIn n count v ws pool)) (holds : Holds n count v ws pool file)
@@ -299,23 +285,6 @@ module _ (n count v : ℕ) (ws pool : List ℕ) (file : File) (room : Room n cou
 
   pub measured-is : (r : Measured) → r ≡ measureIn n count v ws pool → Means r
   measured-is r e = by r (subst (FieldsSay 0 1 10) (sym e) (fields-say 10 0 1 (omega arith) (omega arith)))
-
-  -- and so of the records of the whole file
-  abbrev pub MeansOfFile : Measured → Type 0
-  MeansOfFile (Need x) = (recordsOfFile file ≡ ok (records (presents t (fieldsOf n ws) 1 10))) × (x ≡ length (records (presents t (fieldsOf n ws) 1 10)))
-  MeansOfFile (Undefined f j) = recordsOfFile file ≡ refused (UndefinedVariable (tokenAt ts j) (InField f (keyOf f)))
-  MeansOfFile (TooLarge f) = recordsOfFile file ≡ refused (ContentTooLarge (InField f (keyOf f)))
-
-  pub file-is : resolveVariables (file .variables) ≡ ok (t .values) → (r : Measured) → r ≡ measureIn n count v ws pool → MeansOfFile r
-  file-is e r q = go r (measured-is r q)
-    where
-      after : recordsOfFile file ≡ (resolveFields file (t .values) >>= λ ps. ok (records ps))
-      after = of-file file (t .values) e
-
-      go : (r : Measured) → Means r → MeansOfFile r
-      go (Need x) h = (after ∙ fields-ok (resolveFields file (t .values)) _ (h .0), h .1)
-      go (Undefined f j) h = after ∙ fields-refused (resolveFields file (t .values)) _ h
-      go (TooLarge f) h = after ∙ fields-refused (resolveFields file (t .values)) _ h
 
   -- where it answers a need that the output has, the records can be written
   pub fieldable : Spans count t (fieldsOf n ws) → (x : ℕ) → Need x ≡ measureIn n count v ws pool → (out : List ℕ) → x ≤ length out → Fieldable n count v t (fieldsOf n ws) ws out

@@ -1,6 +1,6 @@
 // What the records of all fields need, by lengths alone, or the first refusal: fields by number, arguments in order. Nothing is written.
 ghost use mathlib.Core.Path.{_≡_};
-ghost use Prim.Native.Nat.{_+_, _*_, _-_, _≤_, _<_};
+ghost use Prim.Native.Nat.{_+_, _*_, _-_, _<_};
 ghost use lib.ListN.{getD};
 ghost use Rattle.passes.specs.Sums.{sizeAt, advance};
 ghost use Rattle.workspace.specs.Map.{Room, startsOf, endsOf};

@@ -1,16 +1,15 @@
 -- Demand 3 of the whole call's answer, for all three outcomes. Assumes nothing.
-use Prim.Native.Nat.{ℕ, zero, suc, _+_, _<_, _≤_}
+use Prim.Native.Nat.{ℕ, _<_}
 use mathlib.Core.Path.{_≡_, refl, ap, sym, _∙_, subst}
-use mathlib.Core.Logic.{_↔_}
 use mathlib.Core.Bool.{Bool, true, false}
-use mathlib.Core.List.{List, [], _∷_, _++_}
+use mathlib.Core.List.{List}
 use native.Mathlib.Omega.{arith}
 use lib.ListN.{length}
 use lib.Dec.{ltb}
 use Rattle.rules.specs.Tokens.{Token}
-use Rattle.rules.specs.Numbers.{LexError, MissingCloseVariable, InvalidVariableChar, Lex, Refusal, WhileResolving, InVariable, InField, UnexpectedAtStart, UnexpectedAfterKey, EndedAfterKey, InvalidVariableName, DuplicateVariable, UnknownField, DuplicateField, UnterminatedQuote, UndefinedVariable, ContentTooLarge, Answer, Accepted, Refused, OutputShort, lexNumber, refusalNumber, number, Detail, details, noDetail, fieldOf, variableOf, refusalDetail, detail, Result, refused, ok, _>>=_}
+use Rattle.rules.specs.Numbers.{LexError, MissingCloseVariable, InvalidVariableChar, Lex, Refusal, WhileResolving, InVariable, InField, UnexpectedAtStart, UnexpectedAfterKey, EndedAfterKey, InvalidVariableName, DuplicateVariable, UnknownField, DuplicateField, UnterminatedQuote, UndefinedVariable, ContentTooLarge, OutputShort, lexNumber, refusalNumber, number, Detail, details, fieldOf, variableOf, refusalDetail, detail, Result, refused, ok, _>>=_}
 use Rattle.rules.specs.Lines.{Assignment, File}
-use Rattle.rules.specs.Variables.{Found, Resolved, resolve, rulesOf, keyAt, resolveVariables}
+use Rattle.rules.specs.Variables.{Found, Resolved, resolve, rulesOf, resolveVariables}
 use Rattle.rules.specs.Reading.{file, recordsOfFile, reading}
 use Rattle.rules.specs.Reader.{Buffers, Outcome, readBuffers, written, untouched, read}
 use Rattle.rules.specs.Demand3.{TooLarge, Lacks, Numbered, ForVariable, Demand3OfCall}

@@ -1,19 +1,19 @@
 -- Laws of the whole call: the five ways it can go, what stood in the buffers has no effect, what they hold afterwards. Assumes nothing.
-use Prim.Native.Nat.{ℕ, zero, suc, _+_, _<_, _≤_}
-use mathlib.Core.Path.{_≡_, refl, ap, sym, _∙_}
+use Prim.Native.Nat.{ℕ, _+_, _<_, _≤_}
+use mathlib.Core.Path.{_≡_, refl, ap, _∙_}
 use mathlib.Core.Bool.{Bool, true, false}
-use mathlib.Core.List.{List, [], _∷_, _++_}
+use mathlib.Core.List.{List, _++_}
 use native.Mathlib.Omega.{arith}
 use lib.ListN.{length, replicate, drop, length-append, length-drop, length-replicate}
 use lib.Dec.{ltb}
 use borrow.Author.Tests.{ltb-true, ltb-false, lt-ltb, le-ltb}
 use Rattle.rules.specs.Bytes.{overwrite}
 use Rattle.rules.specs.Tokens.{Token}
-use Rattle.rules.specs.Numbers.{Answer, Accepted, TooLong, WorkspaceShort, PoolShort, NotUtf8, Refused, OutputShort, Result, refused, ok}
+use Rattle.rules.specs.Numbers.{Accepted, TooLong, WorkspaceShort, PoolShort, NotUtf8, OutputShort, Result, refused, ok}
 use Rattle.rules.specs.Utf8.{wellFormed}
 use Rattle.rules.specs.Lexing.{tokens, poolOf}
 use Rattle.rules.specs.Reading.{reading}
-use Rattle.rules.specs.Reader.{Buffers, Outcome, longest, room, poolAfter, zeroed, readBuffers, written, untouched, read}
+use Rattle.rules.specs.Reader.{Buffers, longest, room, poolAfter, zeroed, readBuffers, written, untouched, read}
 use Rattle.rules.proofs.LexingLaws.{tokens-room}
 
 -- the text is within 65,535 bytes and well-formed, and workspace and pool suffice

@@ -6,9 +6,9 @@ use mathlib.Core.Bool.{Bool, true, false}
 use mathlib.Core.List.{List, [], _∷_, _++_, map}
 use lib.ListN.{length, replicate}
 use Rattle.rules.specs.Bytes.{bytes, overwrite, pick}
-use Rattle.rules.specs.Reader.{Outcome, room}
-use Rattle.rules.specs.Listing.{Listed, listing, decimal}
-use Rattle.rules.specs.Export.{Exported, exportedIn, exported}
+use Rattle.rules.specs.Reader.{room}
+use Rattle.rules.specs.Listing.{listing, decimal}
+use Rattle.rules.specs.Export.{exportedIn, exported}
 use Rattle.rules.specs.Numbers.{number, detail}
 use Rattle.rules.specs.Pclist.{pclist}
 use Rattle.rules.proofs.Computed.{called, dirty}

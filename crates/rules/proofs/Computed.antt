@@ -1,5 +1,5 @@
 -- Whole calls for statements that are computed: what unfolds `called` unfolds all definitions of document 01. Assumes nothing.
-use Prim.Native.Nat.{ℕ, _+_}
+use Prim.Native.Nat.{ℕ}
 use mathlib.Core.List.{List, [], _∷_, _++_}
 use lib.ListN.{length, replicate}
 use Rattle.rules.specs.Bytes.{pick, bytes, is, within, same, before, all, run, overwrite, toLittle, fromLittle}
@@ -13,7 +13,7 @@ use Rattle.rules.specs.Fields.{expanded, resolveParts, resolveArguments,
 use Rattle.rules.specs.Records.{recordBytes, argumentRecords, recordsOf, records}
 use Rattle.rules.specs.Reading.{file, recordsOfFile, reading}
 use Rattle.rules.specs.Reader.{Buffers, Outcome, room, poolAfter, zeroed, readBuffers, written, untouched, read}
-use Rattle.rules.specs.Listing.{Listed, digits, decimal, listingLine, form, prefixed, less, front, listingLines, linesOfRecords, listing}
+use Rattle.rules.specs.Listing.{digits, decimal, listingLine, form, prefixed, less, front, listingLines, linesOfRecords, listing}
 use Rattle.rules.specs.Export.{nameBytes, detailBytes, withDetail, exportedIn, exported}
 use Rattle.rules.specs.Pclist.{firstLine, needOf, pcLine, bytesWritten, withListing, printed, pclist}
 

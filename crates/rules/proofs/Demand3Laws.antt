@@ -1,4 +1,4 @@
--- Demand 3: which answer the resolveVariables of a text get. Assumes nothing.
+-- Demand 3: which answer the variables of a text get. Assumes nothing.
 use Prim.Native.Nat.{ℕ, _<_}
 use mathlib.Core.Path.{_≡_, refl, ap, sym, _∙_, subst}
 use mathlib.Core.Logic.{_↔_}
@@ -199,7 +199,7 @@ module _ (vs : List Assignment) (sorted : Sorted vs) where
       go (lacks i n) q = rw (q, resolveVariables) refl
       go (resolved vals) q = rw (q, resolveVariables) refl
 
-  -- the resolveVariables resolve exactly when nothing is too large and the assigned names can be numbered
+  -- the variables resolve exactly when nothing is too large and the assigned names can be numbered
   pub resolve-exactly : ((vals : Found) × (resolveVariables vs ≡ ok vals)) ↔ ((TooLarge vs → ⊥) × ((num : List ℕ → ℕ) × Numbered vs num))
   unfolding Handed
   resolve-exactly = (

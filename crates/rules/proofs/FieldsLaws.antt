@@ -1,4 +1,4 @@
--- Laws of fields: once the resolveVariables are resolved, a value of a field is its parts joined, or is refused for its first reference without a value, or as too large.
+-- Laws of fields: once the variables are resolved, a value of a field is its parts joined, or is refused for its first reference without a value, or as too large.
 -- Assumes nothing.
 use Prim.Native.Nat.{ℕ, _<_, _≤_}
 use mathlib.Core.Path.{_≡_, refl, ap, subst}

@@ -6,17 +6,17 @@ use mathlib.Core.Bool.{Bool, true, false, _&&_}
 use mathlib.Core.List.{List, [], _∷_, _++_, append-assoc}
 use mathlib.Core.Option.{Option, none, some}
 use native.Mathlib.Omega.{arith}
-use lib.ListN.{length, take, drop, length-append, take-append-drop, length-drop}
+use lib.ListN.{length, take, drop, take-append-drop, length-drop}
 use lib.Seq.{length-take-le, drop-drop}
 use lib.Dec.{ltb, leb, eqb}
-use borrow.Author.Tests.{ltb-true, leb-true, eqb-true, eqb-false, leb-false}
+use borrow.Author.Tests.{ltb-true, leb-true, eqb-true, leb-false}
 use Rattle.rules.specs.Bytes.{pick, toLittle, fromLittle}
 use Rattle.rules.specs.Lines.{isString}
 use Rattle.rules.specs.Variables.{limit}
-use Rattle.rules.specs.Fields.{Content, single, many, Present}
+use Rattle.rules.specs.Fields.{single, many, Present}
 use Rattle.rules.specs.Records.{recordBytes, argumentRecords, recordsOf, records}
 use Rattle.rules.specs.Listing.{decimal, listingLine, Form, form, prefixed, less, Front, front, listingLines}
-use Rattle.rules.proofs.ListingLaws.{argumentLines, contentLines, fieldLines, AllSmall, Shape, InOrder, listing-reads}
+use Rattle.rules.proofs.ListingLaws.{argumentLines, contentLines, fieldLines, AllSmall, InOrder, listing-reads}
 use Rattle.rules.proofs.PassesLaws.{none-some}
 
 abbrev pub Octets : List ℕ → Type 0

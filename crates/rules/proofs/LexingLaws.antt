@@ -4,14 +4,14 @@ use mathlib.Core.Path.{_≡_, refl, ap, sym, _∙_, subst}
 use mathlib.Core.Bool.{Bool, true, false, _&&_, not}
 use mathlib.Core.List.{List, [], _∷_, _++_, append-assoc, append-nil}
 use native.Mathlib.Omega.{arith}
-use lib.ListN.{length, getD, take, drop, length-append, length-drop, drop-of-length-le}
-use lib.Seq.{length-take-le, take-at, drop-at, drop-cons}
-use lib.Dec.{eqb, leb}
-use borrow.Author.Tests.{lt-leb, le-leb}
-use Rattle.rules.specs.Bytes.{bytes, is, pick, run}
-use Rattle.rules.specs.Tokens.{Token, token, Text, Variable, noName, pooled, shownName}
-use Rattle.rules.specs.Numbers.{LexError, Lex, Refusal, Result, refused, ok}
-use Rattle.rules.specs.Lexing.{Class, Lexeme, chars, reference, mark, bad, Gathered, nothingYet, gather, firstSource, isIdentifier, isLineEnd, class, second, afterBackslash, afterName, afterBrace, afterDollar, comment, lexeme, prepend, textToken, flush, lex, tokens, poolOf}
+use lib.ListN.{length, take, drop, length-append, length-drop}
+use lib.Seq.{length-take-le, take-at, drop-at}
+use lib.Dec.{eqb}
+use borrow.Author.Tests.{lt-leb}
+use Rattle.rules.specs.Bytes.{is, pick, run}
+use Rattle.rules.specs.Tokens.{Token, token, Variable, pooled}
+use Rattle.rules.specs.Numbers.{LexError, Lex, Result, refused, ok}
+use Rattle.rules.specs.Lexing.{Class, Lexeme, chars, reference, mark, bad, Gathered, nothingYet, gather, isIdentifier, isLineEnd, class, second, afterBackslash, afterName, afterBrace, afterDollar, comment, lexeme, prepend, textToken, flush, lex, tokens, poolOf}
 use Rattle.rules.proofs.TableLaws.{ok-one, refused-ok}
 
 -- a lexeme takes bytes that are there, and brings no more text than it takes

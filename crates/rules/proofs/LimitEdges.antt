@@ -2,22 +2,21 @@
 -- Assumes nothing.
 use Prim.Native.Nat.{ℕ, zero, suc, _≤_}
 use Prim.Native.String.{String}
-use mathlib.Core.Path.{_≡_, refl, sym, ap, _∙_}
-use mathlib.Core.Bool.{true, false}
-use mathlib.Core.List.{List, [], _∷_, _++_}
-use mathlib.Core.Option.{Option, none, some}
+use mathlib.Core.Path.{_≡_, refl, ap, _∙_}
+use mathlib.Core.Bool.{true}
+use mathlib.Core.List.{List, [], _++_}
+use mathlib.Core.Option.{none}
 use native.Mathlib.Omega.{arith}
 use lib.ListN.{length}
-use borrow.Author.Tests.{le-ltb}
 use Rattle.rules.specs.Bytes.{bytes}
-use Rattle.rules.specs.Numbers.{InVariable, UndefinedVariable, ContentTooLarge, Answer, Accepted, Refused, refusalNumber, number, Result, refused, ok, _>>=_}
+use Rattle.rules.specs.Numbers.{InVariable, UndefinedVariable, ContentTooLarge, refusalNumber, number, Result, refused, ok, _>>=_}
 use Rattle.rules.specs.Utf8.{wellFormed}
-use Rattle.rules.specs.Lines.{Field, File, fieldAt}
-use Rattle.rules.specs.Variables.{Found, Piece, limit, Resolved, resolve, rulesOf, keyAt, resolveVariables}
+use Rattle.rules.specs.Lines.{File, fieldAt}
+use Rattle.rules.specs.Variables.{Found, Resolved, resolve, rulesOf, keyAt, resolveVariables}
 use Rattle.rules.specs.Fields.{fieldsFrom, resolveFields}
 use Rattle.rules.specs.Records.{records}
 use Rattle.rules.specs.Reading.{file, reading}
-use Rattle.rules.specs.Reader.{Buffers, Outcome, longest, room, readBuffers, written, read}
+use Rattle.rules.specs.Reader.{Buffers, longest, room, readBuffers, written, read}
 use Rattle.rules.proofs.Lengths.{boundedSum, add, passLens, lackingLens, leftLens, passesLens, resolveLens, Settles, settlesOf, resolve-lens}
 use Rattle.rules.proofs.Demand3Laws.{reading-refused}
 use Rattle.rules.proofs.RefusalLaws.{afterVariables, reading-resolved}

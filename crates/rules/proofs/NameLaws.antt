@@ -1,31 +1,30 @@
 -- Names: the empty name is never assigned; the names of a detail stand in the pool after the call. Assumes nothing.
-use Prim.Native.Nat.{ℕ, zero, suc, _+_, _-_, _<_, _≤_}
+use Prim.Native.Nat.{ℕ, zero, suc, _+_, _<_, _≤_}
 use mathlib.Core.Path.{_≡_, refl, ap, sym, _∙_, subst}
 use mathlib.Core.Bool.{Bool, true, false}
-use mathlib.Core.List.{List, [], _∷_, _++_, map, append-assoc}
+use mathlib.Core.List.{List, [], _∷_, _++_, map}
 use mathlib.Core.Option.{Option, none, some}
 use native.Mathlib.Omega.{arith}
-use lib.ListN.{length, take, drop, length-append}
+use lib.ListN.{length, take, drop}
 use lib.Dec.{ltb, eqb}
 use borrow.Author.Tests.{eqb-true, le-leb}
 use Rattle.rules.specs.Bytes.{same, overwrite, pick}
 use Rattle.rules.specs.Tokens.{Token, token, noName, isA, pooled, shownName, Text, Variable}
-use Rattle.rules.specs.Numbers.{Lex, Refusal, WhileResolving, InVariable, InField, UnexpectedAtStart, UnexpectedAfterKey, EndedAfterKey, InvalidVariableName, DuplicateVariable, UnknownField, DuplicateField, UnterminatedQuote, UndefinedVariable, ContentTooLarge, Answer, Accepted, Refused, OutputShort, Detail, detail, details, noDetail, fieldOf, refusalDetail, variableOf, Result, refused, ok, _>>=_}
+use Rattle.rules.specs.Numbers.{Lex, Refusal, InVariable, InField, UnexpectedAtStart, UnexpectedAfterKey, EndedAfterKey, InvalidVariableName, DuplicateVariable, UnknownField, DuplicateField, UnterminatedQuote, UndefinedVariable, ContentTooLarge, Detail, detail, details, noDetail, fieldOf, refusalDetail, variableOf, Result, refused, ok, _>>=_}
 use Rattle.rules.specs.Lexing.{Lexeme, Gathered, nothingYet, gather, class, lexeme, prepend, textToken, flush, lex, tokens, poolOf}
 use Rattle.rules.specs.Lines.{Part, Assignment, Field, File, Template, assigned, fieldAt}
-use Rattle.rules.specs.Variables.{limit, rankOf, Piece, Found, Expansion, foundAt, bounded, expand, lookUp, resolveVariables}
-use Rattle.rules.specs.Fields.{Content, Present, expanded, resolveParts, resolveArguments, resolveTemplate, fieldsFrom, resolveFields}
+use Rattle.rules.specs.Variables.{limit, rankOf, Found, Expansion, foundAt, bounded, expand, lookUp, resolveVariables}
+use Rattle.rules.specs.Fields.{Content, expanded, resolveParts, resolveArguments, resolveTemplate, fieldsFrom, resolveFields}
 use Rattle.rules.specs.Records.{records}
 use Rattle.rules.specs.Reading.{file, recordsOfFile, reading}
-use Rattle.rules.specs.Reader.{Buffers, Outcome, readBuffers, poolAfter, written, untouched, read}
+use Rattle.rules.specs.Reader.{Buffers, readBuffers, poolAfter, written, untouched, read}
 use Rattle.rules.specs.Demand3.{At, here, there, Assigned, Upto}
-use Rattle.rules.proofs.BytesLaws.{same-eq}
 use Rattle.rules.proofs.TableLaws.{Sorted, file-sorted, bind-ok, ok-one, refused-ok}
 use Rattle.rules.proofs.LexingLaws.{Fits, lexeme-fits, lex-chars, lex-reference, lex-mark, lex-bad, prepend-ok, In, name-in-pool}
-use Rattle.rules.proofs.TokenLaws.{Each, InPart, InParts, InAll, InTemplate, IsKey, InVariables, InFields, InFile, Carried, Gives, file-gives}
+use Rattle.rules.proofs.TokenLaws.{Each, InParts, InAll, InTemplate, IsKey, InVariables, InFields, InFile, Carried, Gives, file-gives}
 use Rattle.rules.proofs.Demand3Laws.{lacks-exactly}
 use Rattle.rules.proofs.OutcomeLaws.{OneOf, one-of, large-name}
-use Rattle.rules.proofs.RefusalLaws.{Stage, stage, resolving, Only, OnLexing, OnLines, lex-only, file-only}
+use Rattle.rules.proofs.RefusalLaws.{stage, resolving, Only, OnLexing, OnLines, lex-only, file-only}
 use Rattle.rules.proofs.CallLaws.{Checked, checked}
 
 -- a Text token is not empty
@@ -73,14 +72,6 @@ module _ (P : Token → Type 0) (k : EachKind P) where
   pub tokens-each : (input : List ℕ) (ts : List Token) → tokens input ≡ ok ts → Each P ts
   unfolding tokens
   tokens-each input ts e = lex-each input 0 nothingYet 0 0 ts e
-
--- every token has a kind
-abbrev pub HasKind : Token → Type 0
-HasKind t = 0 < t .kind
-
-pub tokens-kinds : (input : List ℕ) (ts : List Token) → tokens input ≡ ok ts → Each HasKind ts
-unfolding token
-tokens-kinds input ts e = tokens-each HasKind (record { texts = λ b bs p s. omega arith; variables = λ n p s. omega arith; marks = λ x b s h. omega arith }) input ts e
 
 pub tokens-not-empty : (input : List ℕ) (ts : List Token) → tokens input ≡ ok ts → Each NotEmpty ts
 unfolding token isA

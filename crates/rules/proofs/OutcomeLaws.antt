@@ -1,21 +1,17 @@
 -- Demand 3 of `resolveVariables`: no fourth outcome, one value, the name that 16 carries, and numbering alone. Assumes nothing.
-use Prim.Native.Nat.{ℕ, zero, suc, _<_}
-use mathlib.Core.Path.{_≡_, refl, ap, sym, _∙_, subst}
+use Prim.Native.Nat.{ℕ, _<_}
+use mathlib.Core.Path.{_≡_, refl, sym, _∙_}
 use mathlib.Core.Logic.{_↔_}
-use mathlib.Core.Bool.{Bool, true, false}
-use mathlib.Core.List.{List, [], _∷_, _++_, map}
-use mathlib.Core.Option.{Option, none, some}
+use mathlib.Core.List.{List}
+use mathlib.Core.Option.{Option}
 use native.Mathlib.Omega.{arith}
-use lib.ListN.{length, getD}
+use lib.ListN.{length}
 use Rattle.rules.specs.Tokens.{Token}
-use Rattle.rules.specs.Numbers.{Refusal, _>>=_, WhileResolving, InVariable, InField, NotUtf8, MissingCloseVariable, InvalidVariableChar, UnexpectedAtStart, UnexpectedAfterKey, EndedAfterKey, InvalidVariableName, DuplicateVariable, UnknownField, DuplicateField, UnterminatedQuote, UndefinedVariable, ContentTooLarge, Result, refused, ok}
-use Rattle.rules.specs.Lines.{Part, Assignment, File}
-use Rattle.rules.specs.Reading.{file, reading}
-use Rattle.rules.specs.Records.{records}
-use Rattle.rules.specs.Utf8.{wellFormed}
-use Rattle.rules.specs.Variables.{rankOf, limit, Piece, Found, Resolved, resolve}
+use Rattle.rules.specs.Numbers.{InVariable, UndefinedVariable, ContentTooLarge, Result, refused, ok}
+use Rattle.rules.specs.Lines.{Assignment}
+use Rattle.rules.specs.Variables.{rankOf, limit, Found, Resolved, resolve}
 use Rattle.rules.specs.Variables.{keyAt, resolveVariables}
-use Rattle.rules.specs.Demand3.{At, Assigned, Value, HasValue, Numbered, Upto}
+use Rattle.rules.specs.Demand3.{Assigned, Value, HasValue, Numbered, Upto}
 use Rattle.rules.proofs.Ranks as P
 use Rattle.rules.proofs.RanksLaws.{joined-one, numbered-iff}
 use Rattle.rules.proofs.ResolveLaws.{resolve-says}

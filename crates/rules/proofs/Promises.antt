@@ -1,24 +1,23 @@
 -- Document 01, "How strong the promises are": any two outcomes are equal, and which readers the contract shuts out. Assumes nothing.
-use Prim.Native.Nat.{ℕ, zero, suc, _+_, _<_, _≤_}
+use Prim.Native.Nat.{ℕ, _<_}
 use mathlib.Core.Path.{_≡_, refl, ap, sym, _∙_}
 use mathlib.Core.Bool.{Bool, true, false}
 use mathlib.Core.List.{List, [], _∷_, _++_}
-use mathlib.Core.Option.{Option, none, some}
+use mathlib.Core.Option.{none, some}
 use native.Mathlib.Omega.{arith}
 use lib.ListN.{length, replicate, take}
 use lib.Dec.{ltb}
 use borrow.Author.Tests.{ltb-true}
 use Rattle.rules.specs.Bytes.{bytes}
-use Rattle.rules.specs.Numbers.{LexError, MissingCloseVariable, InvalidVariableChar, Lex, Refusal, UnexpectedAtStart, UnexpectedAfterKey, EndedAfterKey, InvalidVariableName, DuplicateVariable, UnknownField, DuplicateField, UnterminatedQuote, UndefinedVariable, ContentTooLarge, InVariable, Answer, Accepted, Refused, OutputShort, lexNumber, refusalNumber, number, detail, details, Result, refused, ok}
+use Rattle.rules.specs.Numbers.{LexError, MissingCloseVariable, InvalidVariableChar, Lex, Refusal, UnexpectedAtStart, UnexpectedAfterKey, EndedAfterKey, InvalidVariableName, DuplicateVariable, UnknownField, DuplicateField, UnterminatedQuote, UndefinedVariable, ContentTooLarge, InVariable, lexNumber, refusalNumber, number, detail, details, Result, refused, ok}
 use Rattle.rules.specs.Lines.{File, Assignment}
 use Rattle.rules.specs.Variables.{Found, Pass, pass, Resolved, left, rulesOf, keyAt, resolveVariables}
 use Rattle.rules.specs.Reading.{file, reading}
 use Rattle.rules.specs.Reader.{Buffers, Outcome, readBuffers, written, untouched, read}
 use Rattle.rules.specs.Listing.{Listed, listing}
-use Rattle.rules.specs.Export.{Exported, exportedIn, exported}
+use Rattle.rules.specs.Export.{Exported, exportedIn}
 use Rattle.rules.specs.Pclist.{pclist}
 use Rattle.rules.specs.Demand3.{Demand3}
-use Rattle.rules.proofs.TableLaws.{refused-ok}
 use Rattle.rules.proofs.Demand3Laws.{demand3}
 use Rattle.rules.proofs.CallLaws.{Checked, checked}
 use Rattle.rules.proofs.Computed.{called, dirty}

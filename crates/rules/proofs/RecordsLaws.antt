@@ -1,17 +1,16 @@
 -- Laws of records: what the reader writes has the form that the listing reads. Assumes nothing.
-use Prim.Native.Nat.{ℕ, zero, suc, _+_, _^_, _<_, _≤_}
-use mathlib.Core.Path.{_≡_, refl, ap, sym, _∙_, subst}
+use Prim.Native.Nat.{ℕ, zero, suc, _+_, _<_, _≤_}
+use mathlib.Core.Path.{_≡_, refl, ap, sym, subst}
 use mathlib.Core.Bool.{Bool, true, false}
 use mathlib.Core.List.{List, [], _∷_, _++_, map}
 use mathlib.Core.Option.{Option, none, some}
 use native.Mathlib.Omega.{arith}
 use lib.ListN.{length, length-append}
-use lib.Dec.{leb, eqb}
+use lib.Dec.{eqb}
 use borrow.Author.Tests.{leb-true, leb-false, eqb-true}
-use Rattle.rules.specs.Bytes.{same, all, pick}
-use Rattle.rules.proofs.BytesLaws.{false-true}
+use Rattle.rules.specs.Bytes.{same, all}
 use Rattle.rules.specs.Tokens.{Token, isA, noName, Blank, Colon, Equals, Text, NewLine}
-use Rattle.rules.specs.Numbers.{Refusal, UndefinedVariable, ContentTooLarge, WhileResolving, InField, Result, refused, ok, _>>=_}
+use Rattle.rules.specs.Numbers.{WhileResolving, InField, ok, _>>=_}
 use Rattle.rules.specs.Lexing.{tokens, isIdentifier}
 use Rattle.rules.proofs.LexingLaws.{tokens-room}
 use Rattle.rules.specs.Lines.{Part, Line, Ending, newline, endOfText, Role, onFirst, lines, skipBlanks, isQuote, role, listed, arguments, listValue, Template, string, list, fieldKeys, field, isString, Item, empty, assignment, given, readField, readAssignment, endedAfterKey, afterKey, afterBlanks, readLine, Assignment, Field, File, noLines, assigned, fieldAt, keep, readLines}

@@ -1,6 +1,6 @@
 -- Which refusals are the variables': those that `resolveVariables` gives, and no other stage. Assumes nothing.
 use Prim.Native.Nat.{ℕ, zero, suc, _+_, _<_}
-use mathlib.Core.Path.{_≡_, refl, ap, sym, _∙_}
+use mathlib.Core.Path.{_≡_, refl, sym, _∙_}
 use mathlib.Core.Logic.{_↔_}
 use mathlib.Core.Bool.{Bool, true, false}
 use mathlib.Core.List.{List, [], _∷_, _++_, map}
@@ -9,14 +9,13 @@ use native.Mathlib.Omega.{arith}
 use lib.ListN.{length}
 use Rattle.rules.specs.Bytes.{all}
 use Rattle.rules.specs.Tokens.{Token, token, noName, isA, Text, Colon, Equals, Variable}
-use Rattle.rules.specs.Numbers.{LexError, Lex, Refusal, WhileResolving, InVariable, InField, UnexpectedAtStart, UnexpectedAfterKey, EndedAfterKey, InvalidVariableName, DuplicateVariable, UnknownField, DuplicateField, UnterminatedQuote, UndefinedVariable, ContentTooLarge, Result, refused, ok, _>>=_}
+use Rattle.rules.specs.Numbers.{Lex, Refusal, WhileResolving, InVariable, InField, UnexpectedAtStart, UnexpectedAfterKey, EndedAfterKey, InvalidVariableName, DuplicateVariable, UnknownField, DuplicateField, UnterminatedQuote, UndefinedVariable, ContentTooLarge, Result, refused, ok, _>>=_}
 use Rattle.rules.specs.Lexing.{Lexeme, Gathered, nothingYet, gather, isIdentifier, class, lexeme, prepend, flush, lex, tokens}
 use Rattle.rules.specs.Lines.{Part, Assignment, Field, File, noLines, Item, Line, Ending, newline, endOfText, Role, Template, asPart, lines, skipBlanks, isQuote, role, listed, arguments, listValue, fieldKeys, field, isString, readField, readAssignment, endedAfterKey, afterKey, afterBlanks, readLine, assigned, fieldAt, keep, readLines}
 use Rattle.rules.specs.Variables.{Found, Expansion, expand, lookUp, resolveVariables}
-use Rattle.rules.specs.Fields.{Content, Present, expanded, resolveParts, resolveArguments, resolveTemplate, fieldsFrom, resolveFields}
+use Rattle.rules.specs.Fields.{Content, expanded, resolveParts, resolveArguments, resolveTemplate, fieldsFrom, resolveFields}
 use Rattle.rules.specs.Records.{records}
 use Rattle.rules.specs.Reading.{file, recordsOfFile, reading}
-use Rattle.rules.proofs.BytesLaws.{false-true}
 use Rattle.rules.proofs.LexingLaws.{lex-chars, lex-reference, lex-mark, lex-bad}
 
 -- what a refusal was given for: lexing, the lines, while a variable is, or while the field of this number is

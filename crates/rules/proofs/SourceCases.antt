@@ -1,10 +1,9 @@
 -- Where tokens come from in the source, by cases: the place of the first source byte that gave a token something. Document 02's R-2 will show it. Assumes nothing.
-use Prim.Native.Nat.{ℕ}
 use mathlib.Core.Path.{_≡_, refl}
-use mathlib.Core.List.{List, [], _∷_, map}
+use mathlib.Core.List.{[], _∷_, map}
 use Rattle.rules.specs.Bytes.{bytes}
-use Rattle.rules.specs.Tokens.{Token, token}
-use Rattle.rules.specs.Numbers.{Result, refused, ok, Lex, MissingCloseVariable, InvalidVariableChar, UnexpectedAtStart, UnexpectedAfterKey, DuplicateVariable, UnterminatedQuote, UndefinedVariable, InVariable, InField}
+use Rattle.rules.specs.Tokens.{token}
+use Rattle.rules.specs.Numbers.{refused, ok, Lex, MissingCloseVariable, InvalidVariableChar, UnexpectedAtStart, UnexpectedAfterKey, DuplicateVariable, UnterminatedQuote, UndefinedVariable, InVariable, InField}
 use Rattle.rules.specs.Lexing.{tokens}
 use Rattle.rules.specs.Reading.{reading}
 use Rattle.rules.proofs.Computed.{called}

@@ -1,18 +1,15 @@
 -- Whatever holds of all tokens of a text holds of the keys and references of its file, and of the tokens that a refusal carries. Assumes nothing.
-use Prim.Native.Nat.{ℕ, zero, suc, _+_, _<_}
-use mathlib.Core.Path.{_≡_, refl, ap, sym, _∙_, subst}
+use Prim.Native.Nat.{ℕ}
+use mathlib.Core.Path.{_≡_, refl}
 use mathlib.Core.Bool.{Bool, true, false}
 use mathlib.Core.List.{List, [], _∷_, _++_, map}
 use mathlib.Core.Option.{Option, none, some}
-use native.Mathlib.Omega.{arith}
-use lib.ListN.{length}
 use Rattle.rules.specs.Bytes.{all, before, pick}
 use Rattle.rules.specs.Tokens.{Token, noName, isA, Text, Variable, Blank, Colon, Equals, NewLine}
-use Rattle.rules.specs.Numbers.{Lex, Refusal, WhileResolving, InVariable, InField, UnexpectedAtStart, UnexpectedAfterKey, EndedAfterKey, InvalidVariableName, DuplicateVariable, UnknownField, DuplicateField, UnterminatedQuote, UndefinedVariable, ContentTooLarge, Result, refused, ok, _>>=_}
+use Rattle.rules.specs.Numbers.{Lex, Refusal, UnexpectedAtStart, UnexpectedAfterKey, EndedAfterKey, InvalidVariableName, DuplicateVariable, UnknownField, DuplicateField, UnterminatedQuote, UndefinedVariable, ContentTooLarge, Result, refused, ok, _>>=_}
 use Rattle.rules.specs.Lexing.{isIdentifier, tokens}
 use Rattle.rules.specs.Lines.{Part, asPart, Assignment, Field, File, noLines, Item, Line, Ending, newline, endOfText, Role, Template, onFirst, lines, skipBlanks, dropLastBlank, trimmed, stringValue, isQuote, role, listed, arguments, listValue, fieldKeys, field, isString, readField, readAssignment, endedAfterKey, afterKey, afterBlanks, readLine, assigned, insert, fieldAt, keep, readLines}
 use Rattle.rules.specs.Reading.{file}
-use Rattle.rules.proofs.TableLaws.{ok-one, bind-ok}
 
 module _ (P : Token → Type 0) where
   abbrev pub Each : List Token → Type 0

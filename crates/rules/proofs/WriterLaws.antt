@@ -1,95 +1,12 @@
--- Laws for writing values with a stack: what is left to write, a number that falls with each step, and how deep the stack goes. Assumes nothing.
+-- A law for writing values with a stack: how deep it goes. Assumes nothing.
 use Prim.Native.Nat.{ℕ, zero, suc, _<_, _≤_, _+_}
-use mathlib.Core.Path.{_≡_, refl, ap, ap₂}
-use mathlib.Core.List.{List, [], _∷_, _++_, append-assoc}
+use mathlib.Core.Path.{_≡_, ap}
+use mathlib.Core.List.{List}
 use native.Mathlib.Decide.{decLt}
 use native.Mathlib.Omega.{arith}
-use lib.ListN.{length, getD}
-use Rattle.rules.specs.Tokens.{Token}
+use lib.ListN.{length}
 use Rattle.rules.specs.Variables.{Piece}
-use Rattle.rules.proofs.Ranks.{Joined, Value, HasValue, Numbered}
-use Rattle.rules.proofs.RanksLaws.{joined-one}
-use Rattle.rules.proofs.ResolveLaws.{has-value?}
-
--- the stack's frames are what is left of each value that is being written; all of them together give w
-pub data Stacked (rules : List (List Piece)) : List (List Piece) → List ℕ → Type 0 where
-  nil : Stacked rules [] []
-  cons : {ps : List Piece} {v w : List ℕ} {st : List (List Piece)} → Joined rules ps v → Stacked rules st w → Stacked rules (ps ∷ st) (v ++ w)
-
-module _ (rules : List (List Piece)) where
-  weight : {ps : List Piece} {v : List ℕ} → Joined rules ps v → ℕ
-  weight Joined.nil = 1
-  weight (Joined.text d) = suc (weight d)
-  weight (Joined.ref h d f) = suc (weight d + weight f)
-
-  weight-one : {ps : List Piece} {v w : List ℕ} (d : Joined rules ps v) (d′ : Joined rules ps w) → weight d ≡ weight d′
-  unfolding weight
-  weight-one Joined.nil Joined.nil = refl
-  weight-one (Joined.text d) (Joined.text d′) = ap suc (weight-one d d′)
-  weight-one (Joined.ref h d f) (Joined.ref h′ d′ f′) = ap₂ (λ (x y : ℕ). suc (x + y)) (weight-one d d′) (weight-one f f′)
-
-  pub joined? : (ps : List Piece) → Dec ((v : List ℕ) × Joined rules ps v)
-  joined? [] = yes ([], Joined.nil)
-  joined? (Piece.text s ∷ ps) = elim (joined? ps) [
-    | yes x ↦ yes (s ++ x .0, Joined.text (x .1))
-    | no x ↦ no (λ y. x (text-tail y))
-  ]
-    where
-      text-tail : (v : List ℕ) × Joined rules (Piece.text s ∷ ps) v → (v : List ℕ) × Joined rules ps v
-      text-tail (v, Joined.text {v = w} d) = (w, d)
-  joined? (Piece.ref n j ∷ ps) = elim (joined? ps) [
-    | yes x ↦ elim (has-value? rules j) [
-      | yes y ↦ yes (y .0 ++ x .0, Joined.ref (y .1 .0) (y .1 .1) (x .1))
-      | no y ↦ no (λ z. y (ref-head z))
-    ]
-    | no x ↦ no (λ y. x (ref-tail y))
-  ]
-    where
-      ref-tail : (v : List ℕ) × Joined rules (Piece.ref n j ∷ ps) v → (v : List ℕ) × Joined rules ps v
-      ref-tail (v, Joined.ref {v = w} h d f) = (w, f)
-
-      ref-head : (v : List ℕ) × Joined rules (Piece.ref n j ∷ ps) v → HasValue rules j
-      ref-head (v, Joined.ref {u = u} h d f) = (u, (h, d))
-
-  -- the steps that writing the parts takes
-  pub work : List Piece → ℕ
-  work ps = elim (joined? ps) [ yes x ↦ weight (x .1) | no x ↦ 0 ]
-
-  work-is : {ps : List Piece} {v : List ℕ} (d : Joined rules ps v) → work ps ≡ weight d
-  unfolding work
-  work-is {ps} {v} d = elim (joined? ps) as (λ x. (elim x as (λ _. ℕ) [ yes y ↦ weight (y .1) | no y ↦ 0 ]) ≡ weight d) [
-    | yes y ↦ weight-one (y .1) d
-    | no y ↦ absurd (y (v, d))
-  ]
-
-  pub workAll : List (List Piece) → ℕ
-  workAll [] = 0
-  workAll (ps ∷ st) = work ps + workAll st
-
-  -- a frame that is done
-  pub pop : {st : List (List Piece)} {w : List ℕ} → Stacked rules ([] ∷ st) w → Stacked rules st w × (workAll st < workAll ([] ∷ st))
-  unfolding workAll weight
-  pop (Stacked.cons Joined.nil s) = (s, omega (arith, work-is Joined.nil))
-
-  -- a text is written
-  pub write : {s : List ℕ} {ps : List Piece} {st : List (List Piece)} {w : List ℕ} → Stacked rules ((Piece.text s ∷ ps) ∷ st) w
-      → (more : List ℕ) × (w ≡ s ++ more) × Stacked rules (ps ∷ st) more × (workAll (ps ∷ st) < workAll ((Piece.text s ∷ ps) ∷ st))
-  unfolding workAll weight
-  write (Stacked.cons {w = w} (Joined.text {s} {v} d) x) = (v ++ w, append-assoc s v w, Stacked.cons d x, omega (arith, work-is d, work-is (Joined.text {s = s} d)))
-
-  -- a reference's value is entered
-  pub enter : {n : Token} {j : ℕ} {ps : List Piece} {st : List (List Piece)} {w : List ℕ} → Stacked rules ((Piece.ref n j ∷ ps) ∷ st) w
-      → (j < length rules) × Stacked rules (getD rules j [] ∷ ps ∷ st) w × (workAll (getD rules j [] ∷ ps ∷ st) < workAll ((Piece.ref n j ∷ ps) ∷ st))
-  unfolding workAll weight
-  enter (Stacked.cons {w = w} (Joined.ref {n} {j} {u} {v} h d f) x) =
-      (h, rw append-assoc (Stacked.cons d (Stacked.cons f x)), omega (arith, work-is d, work-is f, work-is (Joined.ref {n = n} h d f)))
-
-  -- a reference whose value is empty is skipped
-  pub skip : {n : Token} {j : ℕ} {ps : List Piece} {st : List (List Piece)} {w : List ℕ} → Value rules j [] → Stacked rules ((Piece.ref n j ∷ ps) ∷ st) w
-      → Stacked rules (ps ∷ st) w × (workAll (ps ∷ st) < workAll ((Piece.ref n j ∷ ps) ∷ st))
-  unfolding workAll weight
-  skip e (Stacked.cons {w = w} (Joined.ref {n} {j} {u} {v} h d f) x) =
-      (rw (joined-one rules d (e .1)) (Stacked.cons f x), omega (arith, work-is f, work-is (Joined.ref {n = n} h d f)))
+use Rattle.rules.proofs.Ranks.{Numbered}
 
 -- A numbering by numbers below the count of names: how many names have a smaller number. The stack's owners have falling numbers, so it is never deeper than that count.
 one : {P : Type 0} → Dec P → ℕ

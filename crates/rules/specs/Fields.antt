@@ -2,7 +2,6 @@
 use Prim.Native.Nat.{ℕ, zero, suc}
 use mathlib.Core.List.{List, [], _∷_, map}
 use mathlib.Core.Option.{none, some}
-use Rattle.rules.specs.Tokens.{Token}
 use Rattle.rules.specs.Numbers.{WhileResolving, InField, UndefinedVariable, ContentTooLarge, Result, refused, ok, _>>=_}
 use Rattle.rules.specs.Lines.{Part, Assignment, File, Template, string, list, fieldAt}
 use Rattle.rules.specs.Variables.{Found, Expansion, large, missing, value, expand, lookUp}

@@ -1,6 +1,6 @@
 -- Document 01, "Lexing": from bytes to tokens. Assumes nothing.
 use Prim.Native.Nat.{ℕ, zero, suc, _+_}
-use mathlib.Core.Bool.{Bool, true, false, _&&_, _||_, not}
+use mathlib.Core.Bool.{Bool, _&&_, _||_, not}
 use mathlib.Core.List.{List, [], _∷_, _++_}
 use lib.ListN.{length, take, drop}
 use lib.Dec.{eqb}

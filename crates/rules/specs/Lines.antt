@@ -5,7 +5,7 @@ use mathlib.Core.List.{List, [], _∷_, _++_, map}
 use mathlib.Core.Option.{Option, none, some}
 use lib.Dec.{leb, eqb}
 use Rattle.rules.specs.Bytes.{bytes, same, before, all, pick}
-use Rattle.rules.specs.Tokens.{Token, token, isA, noName, Text, Variable, Blank, Equals, Colon, SingleQuote, DoubleQuote, Backslash, NewLine}
+use Rattle.rules.specs.Tokens.{Token, isA, noName, Text, Variable, Blank, Equals, Colon, SingleQuote, DoubleQuote, Backslash, NewLine}
 use Rattle.rules.specs.Numbers.{UnexpectedAtStart, UnexpectedAfterKey, EndedAfterKey, InvalidVariableName, DuplicateVariable, UnknownField, DuplicateField, UnterminatedQuote, Result, refused, ok, _>>=_}
 use Rattle.rules.specs.Lexing.{isIdentifier}
 

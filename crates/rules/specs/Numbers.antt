@@ -1,6 +1,5 @@
 -- Document 01, "Numbers returned": every answer with its number and its detail. Assumes nothing.
 use Prim.Native.Nat.{ℕ}
-use mathlib.Core.List.{[]}
 use Rattle.rules.specs.Tokens.{Token, noName, shownName}
 
 -- why a text can't be lexed

@@ -1,10 +1,10 @@
 -- Document 01, "Records and listing": what the program `pclist` prints. Assumes nothing.
 use Prim.Native.Nat.{ℕ}
-use mathlib.Core.List.{List, [], _∷_, _++_}
+use mathlib.Core.List.{List, _++_}
 use mathlib.Core.Option.{Option, none, some}
 use lib.ListN.{take, replicate}
 use Rattle.rules.specs.Bytes.{bytes}
-use Rattle.rules.specs.Numbers.{Answer, Accepted, TooLong, WorkspaceShort, PoolShort, NotUtf8, Refused, OutputShort, NotRecords, DetailShort, Refusal, number}
+use Rattle.rules.specs.Numbers.{Answer, Accepted, TooLong, WorkspaceShort, PoolShort, NotUtf8, Refused, OutputShort, NotRecords, DetailShort, number}
 use Rattle.rules.specs.Reader.{Outcome, read}
 use Rattle.rules.specs.Listing.{Listed, listing, decimal}
 use Rattle.rules.specs.Export.{ownEntries}

@@ -1,1 +1,1 @@
-// Document 01 as definitions (specs/) and what is proved about them (proofs/). No code but the limits.
+// Document 01 as definitions (specs/) and what is proved about them (proofs/). No code.

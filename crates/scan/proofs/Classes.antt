@@ -11,7 +11,7 @@ use borrow.Author.Tests.{ltb-true, ltb-false, eq-eqb, ne-eqb, le-leb, lt-leb}
 use Rattle.rules.specs.Bytes.{is, within, pick}
 use Rattle.rules.specs.Lexing.{Class, class, other, identifier, blank, lineEnd, hash, dollar, openBrace, closeBrace, backslash, equals, colon, single, double, isIdentifier, isLineEnd}
 use Rattle.scan.specs.Classes.{classNumber, classAt, past, ClassTable}
-use Rattle.scan.proofs.Table.{every, both, both-left, both-right, at}
+use Rattle.scan.proofs.Table.{every, both, both-left, both-right, at, same, same-eq}
 
 -- the class of a number, so that a number tells its class
 unfoldable pub byNumber : ℕ → Class
@@ -64,17 +64,6 @@ test equals b = is "=" b
 test colon b = is ":" b
 test single b = is "'" b
 test double b = is "\"" b
-
-abbrev same : Bool → Bool → Bool
-same true b = b
-same false true = false
-same false false = true
-
-same-eq : (a b : Bool) → T (same a b) → a ≡ b
-same-eq true true t = refl
-same-eq true false t = absurd t
-same-eq false true t = absurd t
-same-eq false false t = refl
 
 -- at the byte b, the test of the class c is true exactly where the table has its number
 agrees : Class → ℕ → Bool
@@ -143,10 +132,6 @@ module _ (b : ℕ) (h : 256 ≤ b) where
         not-is 46 (omega arith),
         not-is 95 (omega arith),
       )
-
-  not-blank : (is " " b || is "\t" b) ≡ false
-  unfolding is
-  not-blank = rw (not-is 32 (omega arith), not-is 9 (omega arith))
 
   not-line-end : isLineEnd b ≡ false
   unfolding isLineEnd is

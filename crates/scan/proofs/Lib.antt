@@ -4,3 +4,4 @@ pub mod Lists
 pub mod Stores
 pub mod Littles
 pub mod Orders
+pub mod Bits

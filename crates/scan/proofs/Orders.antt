@@ -81,9 +81,6 @@ less-before a b = says a b .less
 pub equal-same : (a b : List ℕ) → isEqual (orderOf a b) ≡ same a b
 equal-same a b = says a b .equal
 
-pub greater-before : (a b : List ℕ) → isGreater (orderOf a b) ≡ before b a
-greater-before a b = says a b .greater
-
 -- the same of an answer o of `compare` that was matched as k
 module _ (a b : List ℕ) (o k : Order) (e : o ≡ orderOf a b) (m : o ≡ k) where
   pub told-before : isLess k ≡ before a b
@@ -91,6 +88,3 @@ module _ (a b : List ℕ) (o k : Order) (e : o ≡ orderOf a b) (m : o ≡ k) wh
 
   pub told-same : isEqual k ≡ same a b
   told-same = ap isEqual (sym m ∙ e) ∙ equal-same a b
-
-  pub told-after : isGreater k ≡ before b a
-  told-after = ap isGreater (sym m ∙ e) ∙ greater-before a b

@@ -7,7 +7,7 @@ use native.Mathlib.Nat.{add-zero, zero-add, add-assoc}
 use native.Mathlib.Omega.{arith}
 use native.Mathlib.Numerals.{add-one}
 use lib.ListN.{length, getD, take, drop, set, replicate, length-append, length-drop, length-replicate, List·getD-append}
-use lib.Seq.{sets, sets-eq, length-sets, length-take-le, take-at, drop-at, take-set-le, drop-set-lt, take-set-lt, drop-set-add, getD-take, getD-drop, set-set, set-comm, drop-append-seam}
+use lib.Seq.{sets, sets-eq, length-sets, length-take-le, drop-at, take-set-le, drop-set-lt, take-set-lt, drop-set-add, getD-take, getD-drop, set-comm, drop-append-seam}
 use Rattle.rules.specs.Bytes.{overwrite}
 use Rattle.scan.specs.Stores.{puts}
 use Rattle.scan.proofs.Lists.{rest-at}
@@ -34,14 +34,6 @@ set-puts l i j v (u ∷ us) h =
 pub puts-comm : (l : List ℕ) (i j : ℕ) (vs us : List ℕ) → i + length vs ≤ j → puts (puts l i vs) j us ≡ puts (puts l j us) i vs
 puts-comm l i j [] us h = refl
 puts-comm l i j (v ∷ vs) us h = puts-comm (set l i v) (i + 1) j vs us (omega arith) ∙ ap (λ (x : List ℕ). puts x (i + 1) vs) (set-puts l i j v us (omega arith))
-
--- a run over an earlier one that is no longer
-pub puts-over : (l : List ℕ) (i : ℕ) (vs us : List ℕ) → length vs ≤ length us → puts (puts l i vs) i us ≡ puts l i us
-puts-over l i [] us h = refl
-puts-over l i (v ∷ vs) [] h = absurd (omega arith)
-puts-over l i (v ∷ vs) (u ∷ us) h =
-    ap (λ (x : List ℕ). puts x (i + 1) us) (sym (set-puts (set l i v) i (i + 1) u vs (omega arith)) ∙ ap (λ (x : List ℕ). puts x (i + 1) vs) (set-set l i v u))
-    ∙ puts-over (set l i u) (i + 1) vs us (omega arith)
 
 -- what stands before the stores, and what stands past them, is as it was
 pub take-puts : (n : ℕ) (l : List ℕ) (i : ℕ) (vs : List ℕ) → n ≤ i → take n (puts l i vs) ≡ take n l
@@ -91,25 +83,11 @@ module _ (l : List ℕ) (i : ℕ) (vs : List ℕ) (fits : i + length vs ≤ leng
   pub puts-eq : puts l i vs ≡ take i l ++ vs ++ drop (i + length vs) l
   puts-eq = puts-sets l i vs ∙ sets-eq vs l i fits
 
-  head-length : length (take i l ++ vs) ≡ i + length vs
-  head-length = simp length-append (omega (arith, length-take-le i l (omega arith)))
-
-  pub take-stored : take (i + length vs) (puts l i vs) ≡ take i l ++ vs
-  take-stored = rw puts-eq (take-at _ _ _ head-length)
-
   pub drop-stored : drop i (puts l i vs) ≡ vs ++ drop (i + length vs) l
   drop-stored = rw (puts-eq, append-assoc (take i l) vs (drop (i + length vs) l)) (drop-at (take i l) _ i (length-take-le i l (omega arith)))
 
-  pub part-stored : take (length vs) (drop i (puts l i vs)) ≡ vs
-  part-stored = rw drop-stored (take-at vs _ (length vs) refl)
-
   pub getD-stored : (k d : ℕ) → k < length vs → getD (puts l i vs) (i + k) d ≡ getD vs k d
   getD-stored k d h = sym (getD-drop i (puts l i vs) k d) ∙ ap (λ (x : List ℕ). getD x k d) drop-stored ∙ List·getD-append vs (drop (i + length vs) l) d k h
-
--- what was stored first, where more was stored after it
-pub part-stored-first : (l : List ℕ) (i : ℕ) (vs us : List ℕ) → i + length (vs ++ us) ≤ length l → take (length vs) (drop i (puts l i (vs ++ us))) ≡ vs
-part-stored-first l i vs us h =
-    rw (drop-stored l i (vs ++ us) h, append-assoc vs us (drop (i + length (vs ++ us)) l)) (take-at vs _ (length vs) refl)
 
 -- a run of stores at the front is an overwritten front
 pub puts-front : (l vs : List ℕ) → length vs ≤ length l → puts l 0 vs ≡ overwrite vs l
@@ -134,13 +112,6 @@ puts-overwrite xs ys l h =
 pub overwrite-cover : (xs l m : List ℕ) → drop (length xs) l ≡ drop (length xs) m → overwrite xs l ≡ overwrite xs m
 unfolding overwrite
 overwrite-cover xs l m e = ap (λ (x : List ℕ). xs ++ x) e
-
-pub overwrite-puts : (xs l : List ℕ) (i : ℕ) (vs : List ℕ) → i + length vs ≤ length xs → overwrite xs (puts l i vs) ≡ overwrite xs l
-overwrite-puts xs l i vs h = overwrite-cover xs (puts l i vs) l (drop-puts (length xs) l i vs h)
-
-pub take-overwrite : (xs l : List ℕ) → take (length xs) (overwrite xs l) ≡ xs
-unfolding overwrite
-take-overwrite xs l = take-at xs _ (length xs) refl
 
 pub drop-overwrite : (xs l : List ℕ) → drop (length xs) (overwrite xs l) ≡ drop (length xs) l
 unfolding overwrite

@@ -1,3 +1,4 @@
 pub mod Classes
 pub mod Stores
 pub mod Orders
+pub mod Bits

@@ -7,7 +7,7 @@ use native.Mathlib.Omega.{arith}
 use native.Mathlib.Decide.{decLt}
 use native.Mathlib.Numerals.{add-one}
 use lib.ListN.{length, take, drop, getD, set, drop-of-length-le, length-append}
-use lib.Seq.{getD-drop, getD-set-other, drop-cons}
+use lib.Seq.{getD-drop, drop-cons}
 use lib.Dec.{leb}
 use borrow.Author.Tests.{lt-ltb, le-ltb, lt-leb, le-leb}
 use Rattle.rules.specs.Bytes.{pick}
@@ -197,10 +197,6 @@ decode-same (suc n) ws ws′ pool h =
 pub kinds-same : (count : ℕ) (ws ws′ : List ℕ) → ((k : ℕ) → k < 4 * count → getD ws′ k 0 ≡ getD ws k 0) → kinds count ws′ ≡ kinds count ws
 kinds-same count ws ws′ h =
     kinds-decode count ws′ [] ∙ ap (map (λ (t : Token). t .kind)) (decode-same count ws ws′ [] h) ∙ sym (kinds-decode count ws [])
-
--- a store past the tokens leaves them
-pub decode-set : (count : ℕ) (ws pool : List ℕ) (i v : ℕ) → 4 * count ≤ i → decode count (set ws i v) pool ≡ decode count ws pool
-decode-set count ws pool i v h = decode-same count ws (set ws i v) pool (λ k l. getD-set-other ws i k v 0 (λ e. omega arith))
 
 -- THE FRAME: what is stored past the tokens leaves them
 pub decode-puts : (count : ℕ) (ws pool : List ℕ) (base : ℕ) (vs : List ℕ) → 4 * count ≤ base → decode count (puts ws base vs) pool ≡ decode count ws pool

@@ -12,6 +12,9 @@ use scan::store::copy;
 pub struct TokenKind;
 
 impl TokenKind {
+    // No token of a text has this kind: a token gets it that a list value drops.
+    pub const DROPPED: u32 = 0;
+
     pub const TEXT: u32 = 1;
 
     pub const VARIABLE: u32 = 2;

@@ -1,8 +1,8 @@
 -- The file that a workspace holds: what follows from it follows from any file that it holds. Assumes nothing.
 use Prim.Native.Nat.{ℕ, zero, suc, _+_, _*_, _<_, _≤_}
-use mathlib.Core.Path.{_≡_, refl, ap, sym, _∙_, subst}
+use mathlib.Core.Path.{_≡_, refl, ap, sym, _∙_}
 use mathlib.Core.Bool.{Bool, true, false}
-use mathlib.Core.List.{List, [], _∷_}
+use mathlib.Core.List.{List, _∷_}
 use mathlib.Core.Option.{Option, none, some}
 use native.Mathlib.Omega.{arith}
 use lib.ListN.{getD}
@@ -15,7 +15,7 @@ use Rattle.rules.specs.Fields.{Present, resolveTemplate, fieldsFrom, resolveFie
 use Rattle.rules.specs.Records.{records}
 use Rattle.rules.specs.Reading.{recordsOfFile}
 use Rattle.tokens.specs.Entries.{decode}
-use Rattle.workspace.specs.Map.{startsOf, endsOf, variablesIn, fieldOfEntry, fieldIn, fieldsIn, fileIn, Holds}
+use Rattle.workspace.specs.Map.{startsOf, endsOf, fieldOfEntry, fieldIn, fieldsIn, fileIn, Holds}
 
 numberOr : ℕ → Option Field → ℕ
 numberOr f none = f

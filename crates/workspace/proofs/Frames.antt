@@ -1,17 +1,17 @@
 -- What each part of the map rests on, and so what stores elsewhere leave as it was. Assumes nothing.
 use Prim.Native.Nat.{ℕ, zero, suc, _+_, _*_, _≤_, _<_}
-use mathlib.Core.Path.{_≡_, refl, sym, _∙_, ap}
+use mathlib.Core.Path.{_≡_, sym, _∙_, ap}
 use mathlib.Core.List.{List, [], _∷_}
 use native.Mathlib.Nat.{zero-add}
 use native.Mathlib.Omega.{arith}
-use lib.ListN.{length, getD, take, drop, set}
-use lib.Seq.{take-take, take-nil, getD-take, getD-drop, take-set-le, drop-set-lt}
-use Rattle.rules.specs.Lines.{Assignment, File}
-use Rattle.tokens.specs.Entries.{decode, kinds}
-use Rattle.tokens.proofs.TokenLaws.{decode-same, kinds-same}
+use lib.ListN.{length, getD, take, drop}
+use lib.Seq.{take-take, take-nil, getD-take, getD-drop}
+use Rattle.rules.specs.Lines.{Assignment}
+use Rattle.tokens.specs.Entries.{decode}
+use Rattle.tokens.proofs.TokenLaws.{decode-same}
 use Rattle.scan.specs.Stores.{puts}
 use Rattle.scan.proofs.Stores.{take-puts, drop-puts}
-use Rattle.workspace.specs.Map.{keysOf, startsOf, endsOf, ranksOf, variablesIn, rulesIn, fieldIn, Looked, Holds}
+use Rattle.workspace.specs.Map.{ranksOf, variablesIn, rulesIn, fieldIn, Looked}
 
 take-drop : (n b : ℕ) (l : List ℕ) → take n (drop b l) ≡ drop b (take (b + n) l)
 take-drop n zero l = rw zero-add
@@ -31,9 +31,6 @@ module _ (m : ℕ) (ws ws′ : List ℕ) (low : take m ws′ ≡ take m ws) wher
 
   pub decode-low : (count : ℕ) (pool : List ℕ) → 4 * count ≤ m → decode count ws′ pool ≡ decode count ws pool
   decode-low count pool h = decode-same count ws ws′ pool (λ k l. entry-low k (omega arith))
-
-  pub kinds-low : (count : ℕ) → 4 * count ≤ m → kinds count ws′ ≡ kinds count ws
-  kinds-low count h = kinds-same count ws ws′ (λ k l. entry-low k (omega arith))
 
 -- the variables rest on the first 7n entries
 module _ (n count v : ℕ) (ws ws′ pool : List ℕ) (inside : count ≤ n) (few : v ≤ n) (low : take (7 * n) ws′ ≡ take (7 * n) ws) where
@@ -61,17 +58,8 @@ pub record Kept (n : ℕ) (ws ws′ : List ℕ) : Type 0 where
   pub low : take (8 * n) ws′ ≡ take (8 * n) ws
   pub high : drop (12 * n) ws′ ≡ drop (12 * n) ws
 
-pub kept-refl : (n : ℕ) (ws : List ℕ) → Kept n ws ws
-kept-refl n ws = record { low = refl; high = refl }
-
-pub kept-then : {n : ℕ} {a b c : List ℕ} → Kept n a b → Kept n b c → Kept n a c
-kept-then p q = record { low = q .low ∙ p .low; high = q .high ∙ p .high }
-
 pub kept-puts : (n : ℕ) (ws : List ℕ) (i : ℕ) (vs : List ℕ) → 8 * n ≤ i → i + length vs ≤ 12 * n → Kept n ws (puts ws i vs)
 kept-puts n ws i vs h k = record { low = take-puts (8 * n) ws i vs h; high = drop-puts (12 * n) ws i vs k }
-
-pub kept-set : (n : ℕ) (ws : List ℕ) (i x : ℕ) → 8 * n ≤ i → i < 12 * n → Kept n ws (set ws i x)
-kept-set n ws i x h k = record { low = take-set-le (8 * n) ws i x h; high = drop-set-lt (12 * n) ws i x k }
 
 module _ (n count v : ℕ) (ws ws′ pool : List ℕ) (inside : count ≤ n) (few : v ≤ n) where
   -- the rules rest on the first 8n entries
@@ -92,18 +80,6 @@ module _ (n count v : ℕ) (ws ws′ pool : List ℕ) (inside : count ≤ n) (fe
     pub tokens-kept : decode count ws′ pool ≡ decode count ws pool
     tokens-kept = decode-low (8 * n) ws ws′ (K .low) count pool (omega arith)
 
-    pub kinds-kept : kinds count ws′ ≡ kinds count ws
-    kinds-kept = kinds-low (8 * n) ws ws′ (K .low) count (omega arith)
-
-    pub keys-kept : keysOf n v ws′ ≡ keysOf n v ws
-    keys-kept = column-low (8 * n) ws ws′ (K .low) v (4 * n) (omega arith)
-
-    pub starts-kept : startsOf n ws′ ≡ startsOf n ws
-    starts-kept = column-low (8 * n) ws ws′ (K .low) n (5 * n) (omega arith)
-
-    pub ends-kept : endsOf n ws′ ≡ endsOf n ws
-    ends-kept = column-low (8 * n) ws ws′ (K .low) n (6 * n) (omega arith)
-
     pub ranks-kept : ranksOf n ws′ ≡ ranksOf n ws
     ranks-kept = column-low (8 * n) ws ws′ (K .low) n (7 * n) (omega arith)
 
@@ -113,11 +89,5 @@ module _ (n count v : ℕ) (ws ws′ pool : List ℕ) (inside : count ≤ n) (fe
     pub rules-kept : rulesIn n count v ws′ pool ≡ rulesIn n count v ws pool
     rules-kept = rules-low (K .low)
 
-    pub field-kept : (f : ℕ) → fieldIn n count ws′ pool f ≡ fieldIn n count ws pool f
-    field-kept = field-low n count v ws ws′ pool inside few low-seven (K .high)
-
     pub looked-kept : (vs : List Assignment) → Looked n count ws pool vs → Looked n count ws′ pool vs
     looked-kept vs L = rw (tokens-kept, ranks-kept) L
-
-    pub holds-kept : (file : File) → Holds n count v ws pool file → Holds n count v ws′ pool file
-    holds-kept file H = record { variables = variables-kept ∙ H .variables; fields = λ f p q. field-kept f ∙ H .fields f p q }

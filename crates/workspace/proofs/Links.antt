@@ -70,10 +70,6 @@ module _ (n count v : ℕ) (ws pool : List ℕ) (room : 4 * n + v ≤ length ws)
   pub keys-length : length (keysOf n v ws) ≡ v
   keys-length = length-take-le v (drop (4 * n) ws) (omega (arith, length-drop (4 * n) ws))
 
-  pub variables-length : length (variablesIn n count v ws pool) ≡ v
-  unfolding variablesIn
-  variables-length = length-map (keysOf n v ws) _ ∙ keys-length
-
   pub rules-length : length (rulesIn n count v ws pool) ≡ v
   unfolding rulesIn
   rules-length = length-map (keysOf n v ws) _ ∙ keys-length

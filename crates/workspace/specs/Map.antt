@@ -10,10 +10,9 @@
 --   12n .. 12n+11 by field number: the field's key token + 1, 0 where the field is absent
 use Prim.Native.Nat.{ℕ, zero, suc, _+_, _*_, _-_, _≤_, _<_}
 use mathlib.Core.Path.{_≡_}
-use mathlib.Core.Bool.{Bool, true, false}
+use mathlib.Core.Bool.{true}
 use mathlib.Core.List.{List, [], _∷_, map}
 use mathlib.Core.Option.{Option, none, some}
-use lib.Dec.{eqb}
 use lib.ListN.{length, getD, take, drop}
 use Rattle.rules.specs.Bytes.{pick}
 use Rattle.rules.specs.Tokens.{Token, isA, Variable}

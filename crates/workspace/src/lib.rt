@@ -1,1 +1,1 @@
-// The map of the workspace: definitions only (specs/).
+// The map of the workspace as definitions (specs/), and what is proved about them (proofs/). No code.

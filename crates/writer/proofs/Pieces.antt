@@ -12,7 +12,7 @@ use Rattle.rules.specs.Bytes.{pick}
 use Rattle.rules.specs.Tokens.{isA, noName}
 use Rattle.rules.specs.Variables.{Piece}
 use Rattle.tokens.specs.Entries.{tokenAt}
-use Rattle.workspace.proofs.Frames.{take-low, column-low, decode-low, Kept}
+use Rattle.workspace.proofs.Frames.{column-low, decode-low}
 use Rattle.workspace.specs.Map.{Dropped, piecesOf, pieceOf, rulesIn, Room}
 use Rattle.writer.specs.Tables.{Tables, tablesIn, startOf, endOf, pieces, value, joined}
 use Rattle.writer.specs.Writing.{Known, Apart}
@@ -28,10 +28,6 @@ tables-same n count v ws ws′ pool r a =
     let k7 = column-low (9 * n) ws ws′ (a .before) n (7 * n) (omega arith) in
     let k8 = column-low (9 * n) ws ws′ (a .before) v (8 * n) (omega (arith, r .tokens, r .few)) in
     rw (d, k4, k5, k6, k7, k8)
-
--- and so does all that rests on the map
-pub apart-kept : {n : ℕ} {ws ws′ : List ℕ} → Apart n ws ws′ → Kept n ws ws′
-apart-kept {n} {ws} {ws′} a = record { low = take-low (9 * n) ws ws′ (a .before) (8 * n) (omega arith); high = a .past }
 
 pub room-same : {n count v : ℕ} {ws ws′ : List ℕ} → Room n count v ws → Apart n ws ws′ → Room n count v ws′
 room-same r a = record { small = r .small; room = omega (arith, r .room, a .long); tokens = r .tokens; few = r .few }

@@ -9,10 +9,11 @@ use native.Mathlib.Decide.{decLt}
 use native.Mathlib.Omega.{arith}
 use lib.Dec.{ltb}
 use lib.ListN.{length, getD, replicate, length-append, length-map, length-replicate, List·getD-eq-default}
-use Rattle.rules.specs.Numbers.{InVariable, UndefinedVariable, ContentTooLarge, refused, ok}
+use Rattle.rules.specs.Numbers.{ok}
 use Rattle.rules.specs.Lines.{Assignment}
-use Rattle.rules.specs.Variables.{Piece, rulesOf, Found, Resolved, tooLarge, lacks, keyAt, resolveVariables, foundAt, resolved, resolve, limit, Expansion, large, missing, bounded, expand}
+use Rattle.rules.specs.Variables.{Piece, rulesOf, Found, Resolved, tooLarge, lacks, resolveVariables, foundAt, resolved, resolve, limit, Expansion, large, missing, bounded, expand}
 use Rattle.rules.proofs.Lengths.{entries}
+use Rattle.rules.proofs.TableLaws.{ok-one, refused-ok}
 use Rattle.scan.specs.Stores.{puts}
 use Rattle.scan.proofs.Stores.{puts-puts, column-before}
 use Rattle.workspace.specs.Map.{Room, keysOf, endsOf, lengthsOf, variablesIn, rulesIn, Looked}
@@ -28,15 +29,9 @@ unfolding resolveVariables
 found-by vs vals e = go (resolve (rulesOf vs vs)) refl
   where
     go : (x : Resolved) → resolve (rulesOf vs vs) ≡ x → x ≡ resolved vals
-    go (tooLarge i) q =
-        let y : refused (ContentTooLarge (InVariable (keyAt vs i))) ≡ ok vals = rw (q, resolveVariables) at e in
-        let z : _≡_ {A = ℕ} 0 1 = cc in
-        absurd (omega arith)
-    go (lacks i n) q =
-        let y : refused (UndefinedVariable n (InVariable (keyAt vs i))) ≡ ok vals = rw (q, resolveVariables) at e in
-        let z : _≡_ {A = ℕ} 0 1 = cc in
-        absurd (omega arith)
-    go (resolved w) q = let y : ok w ≡ ok vals = rw (q, resolveVariables) at e in cc
+    go (tooLarge i) q = absurd (refused-ok (rw (q, resolveVariables) at e))
+    go (lacks i n) q = absurd (refused-ok (rw (q, resolveVariables) at e))
+    go (resolved w) q = ap resolved (ok-one (rw (q, resolveVariables) at e))
 
 pub found-in : (n count v : ℕ) (ws pool : List ℕ) (vals : Found) → Looked n count ws pool (variablesIn n count v ws pool) → resolveVariables (variablesIn n count v ws pool) ≡ ok vals
     → resolve (rulesIn n count v ws pool) ≡ resolved vals

@@ -14,9 +14,6 @@ use tokens::TokenKind;
 use tokens::copy_text;
 use tokens::kind_at;
 
-// The kind of a token that a list value dropped.
-const DROPPED: u32 = 0;
-
 // One more than the place where the value of the name of rank j stands; 0 for none.
 fn place(ws: &[u32], n: usize, j: usize) -> usize
     requires { ⌜ (n ≤ 65535) × (9 * n + 2 * j + 1 < length (now ws)) ⌝ }
@@ -101,7 +98,7 @@ pub fn write_value(
                     p += size - 1;
                     next += 1;
                 }
-            } else if kind == DROPPED {
+            } else if kind == TokenKind::DROPPED {
                 next += 1;
             } else {
                 p = copy_text(ws, pool, count, next, out, p);

@@ -1,8 +1,6 @@
 use borrow.Author.Needs.{needs}
 use Rattle.answers.proofs.number_of.Statement.{statement}
 use Rattle.answers.proofs.number_of.Tie as tie
-use Rattle.answers.proofs.number_of.Reads as reads
-use Rattle.answers.proofs.number_of.Lts as lts
 
 -- src/lib.rt:52:29
 enum-told : tie.Need-enum-told

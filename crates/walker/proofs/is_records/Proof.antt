@@ -29,51 +29,31 @@ enum-known-s : tie.Need-enum-known-s Inv-loop μ-loop
 enum-known-s c = search needs
 
 loop-less : tie.Need-loop-less Inv-loop μ-loop
-loop-less c =
-    let p = c .before .before .before in
-    let a = p .before .before .before .before .args in
-    let m = step-moves (a .records .now) (p .before .loop .w) _ (sym (p .step-at .ensures) ∙ c .before .s .given .1) in
-    omega (arith, m .0, m .1)
+loop-less c = let m = step-moves _ _ _ (sym (c .before .before .before .step-at .ensures) ∙ c .before .s .given .1) in omega (arith, m .0, m .1)
 
 loop-again : tie.Need-loop-again Inv-loop μ-loop
-loop-again c =
-    let p = c .before .before .before in
-    let a = p .before .before .before .before .args in
-    sym (some-step (a .records .now) (p .before .loop .w) _ (sym (p .step-at .ensures) ∙ c .before .s .given .1)) ∙ p .before .loop .inv
+loop-again c = let p = c .before .before .before in sym (some-step _ _ _ (sym (p .step-at .ensures) ∙ c .before .s .given .1)) ∙ p .before .loop .inv
 
 enum-known-s-2 : tie.Need-enum-known-s-2 Inv-loop μ-loop
 enum-known-s-2 c = search needs
 
 loop-less-2 : tie.Need-loop-less-2 Inv-loop μ-loop
-loop-less-2 c =
-    let p = c .before .before .before in
-    let a = p .before .before .before .before .args in
-    let m = step-moves (a .records .now) (p .before .loop .w) _ (sym (p .step-at .ensures) ∙ c .before .s2 .given .1) in
-    omega (arith, m .0, m .1)
+loop-less-2 c = let m = step-moves _ _ _ (sym (c .before .before .before .step-at .ensures) ∙ c .before .s2 .given .1) in omega (arith, m .0, m .1)
 
 loop-again-2 : tie.Need-loop-again-2 Inv-loop μ-loop
-loop-again-2 c =
-    let p = c .before .before .before in
-    let a = p .before .before .before .before .args in
-    sym (some-step (a .records .now) (p .before .loop .w) _ (sym (p .step-at .ensures) ∙ c .before .s2 .given .1)) ∙ p .before .loop .inv
+loop-again-2 c = let p = c .before .before .before in sym (some-step _ _ _ (sym (p .step-at .ensures) ∙ c .before .s2 .given .1)) ∙ p .before .loop .inv
 
 enum-told : tie.Need-enum-told Inv-loop μ-loop
 enum-told c = search needs
 
 returns : tie.Need-returns Inv-loop μ-loop
-returns c =
-    let p = c .before .before .before in
-    let a = p .before .before .before .args in
-    sym (some-step (a .records .now) (p .loop .w) _ (sym (c .before .before .step-at .ensures) ∙ c .enum-told .given .1)) ∙ p .loop .inv
+returns c = sym (some-step _ _ _ (sym (c .before .before .step-at .ensures) ∙ c .enum-told .given .1)) ∙ c .before .before .before .loop .inv
 
 enum-told-2 : tie.Need-enum-told-2 Inv-loop μ-loop
 enum-told-2 c = search needs
 
 returns-2 : tie.Need-returns-2 Inv-loop μ-loop
-returns-2 c =
-    let p = c .before .before .before in
-    let a = p .before .before .before .args in
-    sym (some-step (a .records .now) (p .loop .w) _ (sym (c .before .before .step-at .ensures) ∙ c .enum-told2 .given .1)) ∙ p .loop .inv
+returns-2 c = sym (some-step _ _ _ (sym (c .before .before .step-at .ensures) ∙ c .enum-told2 .given .1)) ∙ c .before .before .before .loop .inv
 
 pub is-records-spec : {M : Type 1} → statement M
 is-records-spec =

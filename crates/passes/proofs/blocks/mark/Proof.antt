@@ -1,4 +1,4 @@
-use Rattle.passes.proofs.Bits.{one-shl}
+use Rattle.scan.proofs.Bits.{one-shl}
 use Rattle.passes.proofs.Waits.{marks, marks-none}
 use borrow.Author.Needs.{needs}
 use Rattle.passes.proofs.blocks.mark.Statement.{statement}

@@ -36,13 +36,9 @@ cell-requires-3 c κs = search needs
 
 write-record-requires : tie.Need-write-record-requires
 write-record-requires c κs =
-    let at-if2 = c .before .before in
-    let at-cell3 = at-if2 .before in
-    let at-cell2 = at-cell3 .before .before in
-    let at-if1 = at-cell2 .before .before in
-    let at-cell = at-if1 .before in
-    let at-pre = at-cell .before .before .before .before .before in
-    string-fits (at-pre .pre) _ (at-cell .cell .ensures) (at-if1 .if1 .left) _ _ (at-cell2 .cell2 .ensures) (at-cell3 .cell3 .ensures) (at-if2 .if2 .taken)
+    let cells = c .before .before .before in
+    let there = cells .before .before .before .before in
+    string-fits (there .before .before .before .before .before .before .pre) _ (there .before .cell .ensures) (there .if1 .left) _ _ (cells .before .before .cell2 .ensures) (cells .cell3 .ensures) (c .before .before .if2 .taken)
 
 same-length-2 : tie.Need-same-length-2
 same-length-2 c = search needs
@@ -52,24 +48,15 @@ same-length-3 c = search needs
 
 returns-2 : tie.Need-returns-2
 returns-2 c =
-    let at-write-record = c .before .before .before .before in
-    let at-if2 = at-write-record .before .before .before in
-    let at-cell3 = at-if2 .before in
-    let at-cell2 = at-cell3 .before .before in
-    let at-if1 = at-cell2 .before .before in
-    let at-cell = at-if1 .before in
-    let at-pre = at-cell .before .before .before .before .before in
-    string-done (at-pre .pre) _ (at-cell .cell .ensures) (at-if1 .if1 .left) _ _ (at-cell2 .cell2 .ensures) (at-cell3 .cell3 .ensures) (at-if2 .if2 .taken) (at-write-record .write-record .ensures)
+    let cells = c .before .before .before .before .before .before .before .before in
+    let there = cells .before .before .before .before in
+    string-done (there .before .before .before .before .before .before .pre) _ (there .before .cell .ensures) (there .if1 .left) _ _ (cells .before .before .cell2 .ensures) (cells .cell3 .ensures) (c .before .before .before .before .before .before .before .if2 .taken) (c .before .before .before .before .write-record .ensures)
 
 write-list-requires : tie.Need-write-list-requires
 write-list-requires c κs =
-    let at-if2 = c .before .before in
-    let at-cell3 = at-if2 .before in
-    let at-cell2 = at-cell3 .before .before in
-    let at-if1 = at-cell2 .before .before in
-    let at-cell = at-if1 .before in
-    let at-pre = at-cell .before .before .before .before .before in
-    list-fits (at-pre .pre) _ (at-cell .cell .ensures) (at-if1 .if1 .left) _ _ (at-cell2 .cell2 .ensures) (at-cell3 .cell3 .ensures) (at-if2 .if2 .left)
+    let cells = c .before .before .before in
+    let there = cells .before .before .before .before in
+    list-fits (there .before .before .before .before .before .before .pre) _ (there .before .cell .ensures) (there .if1 .left) _ _ (cells .before .before .cell2 .ensures) (cells .cell3 .ensures) (c .before .before .if2 .left)
 
 same-length-4 : tie.Need-same-length-4
 same-length-4 c = search needs
@@ -79,14 +66,9 @@ same-length-5 c = search needs
 
 returns-3 : tie.Need-returns-3
 returns-3 c =
-    let at-write-list = c .before .before .before .before in
-    let at-if2 = at-write-list .before .before .before in
-    let at-cell3 = at-if2 .before in
-    let at-cell2 = at-cell3 .before .before in
-    let at-if1 = at-cell2 .before .before in
-    let at-cell = at-if1 .before in
-    let at-pre = at-cell .before .before .before .before .before in
-    list-done (at-pre .pre) _ (at-cell .cell .ensures) (at-if1 .if1 .left) _ _ (at-cell2 .cell2 .ensures) (at-cell3 .cell3 .ensures) (at-if2 .if2 .left) (at-write-list .write-list .ensures)
+    let cells = c .before .before .before .before .before .before .before .before in
+    let there = cells .before .before .before .before in
+    list-done (there .before .before .before .before .before .before .pre) _ (there .before .cell .ensures) (there .if1 .left) _ _ (cells .before .before .cell2 .ensures) (cells .cell3 .ensures) (c .before .before .before .before .before .before .before .if2 .left) (c .before .before .before .before .write-list .ensures)
 
 pub write-field-spec : {M : Type 1} → statement M
 write-field-spec =

@@ -50,11 +50,11 @@ loop-again c = (omega arith, (omega arith, rw (rest-at _ _ (c .before .before .b
 
 returns-4 : tie.Need-returns-4 Inv-loop μ-loop
 unfolding orderOf pick
-returns-4 c = rw (drop-of-length-le _ (c .before .loop-test .left), rest-at _ _ (c .if4 .taken)) at (c .before .before .loop .inv .1 .1)
+returns-4 c = let i = c .before .before in rw (drop-of-length-le _ (c .before .loop-test .left), rest-at (i .before .args .b .now) (i .loop .i) (c .if4 .taken)) at (i .loop .inv .1 .1)
 
 returns-5 : tie.Need-returns-5 Inv-loop μ-loop
 unfolding orderOf pick
-returns-5 c = rw (drop-of-length-le _ (c .before .loop-test .left), drop-of-length-le _ (c .if4 .left)) at (c .before .before .loop .inv .1 .1)
+returns-5 c = let i = c .before .before in rw (drop-of-length-le _ (c .before .loop-test .left), drop-of-length-le (i .before .args .b .now) (c .if4 .left)) at (i .loop .inv .1 .1)
 
 pub compare-spec : {M : Type 1} → statement M
 compare-spec =
