@@ -26,3 +26,5 @@ pub mod Cases
 pub mod SourceCases
 pub mod TokenLaws
 pub mod NameLaws
+pub mod PackagesCases
+pub mod PackagesLaws

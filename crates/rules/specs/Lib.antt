@@ -13,3 +13,4 @@ pub mod Listing
 pub mod Export
 pub mod Pclist
 pub mod Demand3
+pub mod Packages
