@@ -49,7 +49,7 @@ module _ (value : List ℕ) where
         let z : eqb (run isWord (drop version value)) 0 ≡ false = ne-eqb (run isWord (drop version value)) 0 (λ e. n (omega (arith, e, q))) in
         let v : version ≤ length value = omega (arith, p, run-inside isBlank value at inside) in
         let w : next ≤ length value = omega (arith, q, run-inside isWord value version v) in
-        rw (skipped isBlank at version p, z, worded version next q, skipped isWord version next q) (record { is-first = refl; inside = (named, omega (arith, q, w), w) })
+        rw (skipped isBlank at version p, z, worded version next q, skipped isWord version next q) (record { is-first = refl; inside = record { name = named; version = omega (arith, q, w); next = w } })
 
   -- an operator's bytes are there
   one-byte : (b : ℕ) → (operatorOf (b ∷ []) ≡ 7 → ⊥) → operatorSize (operatorOf (b ∷ [])) ≤ 1
@@ -80,7 +80,7 @@ module _ (value : List ℕ) where
     pub operator-none : operator ≡ 0
         → Gives value (withOperator called (drop (name + size) value)) (Item (record { name = name; size = size; operator = 0; version = name + size; extent = 0; next = name + size }))
     unfolding withOperator pick
-    operator-none e = rw (signed, eq-eqb operator 0 e) (record { is-first = refl; inside = (named, omega arith, named) })
+    operator-none e = rw (signed, eq-eqb operator 0 e) (record { is-first = refl; inside = record { name = named; version = omega arith; next = named } })
 
     pub operator-alone : (operator ≡ 0 → ⊥) → operator ≡ 7 → Gives value (withOperator called (drop (name + size) value)) Malformed
     unfolding withOperator pick

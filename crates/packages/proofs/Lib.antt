@@ -1,2 +1,5 @@
 pub mod Places
 pub mod Finds
+pub mod Measures
+pub mod Puts
+pub mod Writes

@@ -1,2 +1,3 @@
 // Fields 5 and 6 as items, written as records (document 02, R-1).
 pub mod cut;
+pub mod items;
