@@ -3,3 +3,5 @@ pub mod Finds
 pub mod Measures
 pub mod Puts
 pub mod Writes
+pub mod Values
+pub mod Answers
