@@ -16,26 +16,30 @@ enum-known-both-2 : tie.Need-enum-known-both-2
 enum-known-both-2 c = search needs
 
 returns : tie.Need-returns
-returns c = let o = c .before .before .before .before in
+returns c =
+    let o = c .before .before .before .before in
     let a = o .before .before .before .before .args in
     let n = needs-both (itemsOf (a .fifth .now)) (itemsOf (a .sixth .now)) _ (sym (o .measure-both .ensures) ∙ c .before .before .both2 .given .1) in
     says-short n (a .output .now) (c .if1 .taken)
 
 write-items-requires : tie.Need-write-items-requires
-write-items-requires c κs = let o = c .before .before .before .before .before in
+write-items-requires c κs =
+    let o = c .before .before .before .before .before in
     let a = o .before .before .before .before .args in
     let n = needs-both (itemsOf (a .fifth .now)) (itemsOf (a .sixth .now)) _ (sym (o .measure-both .ensures) ∙ c .before .before .before .both2 .given .1) in
     fits-fifth n (a .output .now) (c .before .if1 .left)
 
 write-items-requires-2 : tie.Need-write-items-requires-2
-write-items-requires-2 c κs = let o = c .before .before .before .before .before .before .before .before .before in
+write-items-requires-2 c κs =
+    let o = c .before .before .before .before .before .before .before .before .before in
     let a = o .before .before .before .before .args in
     let n = needs-both (itemsOf (a .fifth .now)) (itemsOf (a .sixth .now)) _ (sym (o .measure-both .ensures) ∙ c .before .before .before .before .before .before .before .both2 .given .1) in
     let w = c .before .before .before .write-items .ensures in
     fits-sixth n (a .output .now) (c .before .before .before .before .before .if1 .left) (w .0) (w .1)
 
 returns-2 : tie.Need-returns-2
-returns-2 c = let o = c .before .before .before in
+returns-2 c =
+    let o = c .before .before .before in
     let a = o .before .before .before .before .args in
     says-malformed (itemsOf (a .fifth .now)) (itemsOf (a .sixth .now)) (a .output .now) _ _ (sym (o .measure-both .ensures) ∙ c .before .both .given .1)
 
@@ -43,7 +47,8 @@ same-length : tie.Need-same-length
 same-length c = search needs
 
 returns-3 : tie.Need-returns-3
-returns-3 c = let o = c .before .before .before .before .before .before .before .before .before .before .before .before in
+returns-3 c =
+    let o = c .before .before .before .before .before .before .before .before .before .before .before .before in
     let a = o .before .before .before .before .args in
     let n = needs-both (itemsOf (a .fifth .now)) (itemsOf (a .sixth .now)) _ (sym (o .measure-both .ensures) ∙ c .before .before .before .before .before .before .before .before .before .before .both2 .given .1) in
     let w = c .before .before .before .before .before .before .write-items .ensures in

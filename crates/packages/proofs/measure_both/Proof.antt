@@ -22,7 +22,8 @@ enum-known-b c = search needs
 
 add-t11 : tie.Need-add-t11
 unfolding limit
-add-t11 c = let a = rw (c .before .before .before .before .before .a .given .1) at (c .before .before .before .before .before .before .before .measure .ensures .1) in
+add-t11 c =
+    let a = rw (c .before .before .before .before .before .a .given .1) at (c .before .before .before .before .before .before .before .measure .ensures .1) in
     let b = rw (c .before .b .given .1) at (c .before .before .before .measure2 .ensures .1) in
     omega (arith, a, b)
 
@@ -39,15 +40,18 @@ cast-t13 : tie.Need-cast-t13
 cast-t13 c = search needs
 
 returns : tie.Need-returns
-returns c = let s = c .before .before .before .before .before .before .before .before .before .before .args in
+returns c =
+    let s = c .before .before .before .before .before .before .before .before .before .before .args in
     both-need (itemsOf (s .fifth .now)) (itemsOf (s .sixth .now)) _ _ (sym (c .before .before .before .before .before .a .given .1) ∙ c .before .before .before .before .before .before .before .measure .ensures .0) (sym (c .before .b .given .1) ∙ c .before .before .before .measure2 .ensures .0)
 
 returns-2 : tie.Need-returns-2
-returns-2 c = let s = c .before .before .before .before .before .before .before .before .before .before .args in
+returns-2 c =
+    let s = c .before .before .before .before .before .before .before .before .before .before .args in
     both-sixth (itemsOf (s .fifth .now)) (itemsOf (s .sixth .now)) _ _ (sym (c .before .before .before .before .before .a .given .1) ∙ c .before .before .before .before .before .before .before .measure .ensures .0) (sym (c .before .b2 .given .1) ∙ c .before .before .before .measure2 .ensures .0)
 
 returns-3 : tie.Need-returns-3
-returns-3 c = let s = c .before .before .before .before .before .before .args in
+returns-3 c =
+    let s = c .before .before .before .before .before .before .args in
     both-fifth (itemsOf (s .fifth .now)) (itemsOf (s .sixth .now)) _ (sym (c .before .a2 .given .1) ∙ c .before .before .before .measure .ensures .0)
 
 pub measure-both-spec : {M : Type 1} → statement M

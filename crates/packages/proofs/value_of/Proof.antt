@@ -25,7 +25,8 @@ enum-known-f : tie.Need-enum-known-f Inv-loop μ-loop
 enum-known-f c = search needs
 
 add-payload : tie.Need-add-payload Inv-loop μ-loop
-add-payload c = let o = c .before .before .before in
+add-payload c =
+    let o = c .before .before .before in
     let a = o .before .before .before .args in
     let h = front-fits (a .records .now) (a .field) (o .before .loop .at) _ _ (sym (o .front-at .ensures) ∙ c .before .f .given .1) in omega (arith, h)
 
@@ -33,22 +34,26 @@ part-requires : tie.Need-part-requires Inv-loop μ-loop
 part-requires c κs = search needs
 
 returns : tie.Need-returns Inv-loop μ-loop
-returns c = let o = c .before .before .before .before .before in
+returns c =
+    let o = c .before .before .before .before .before in
     let a = o .before .before .before .args in
     c .part .ensures ∙ value-here (a .records .now) (a .field) (o .before .loop .at) _ _ (sym (o .front-at .ensures) ∙ c .before .before .before .f .given .1) (c .before .if1 .taken) ∙ o .before .loop .inv
 
 add-at : tie.Need-add-at Inv-loop μ-loop
-add-at c = let o = c .before .before .before .before in
+add-at c =
+    let o = c .before .before .before .before in
     let a = o .before .before .before .args in
     let h = front-fits (a .records .now) (a .field) (o .before .loop .at) _ _ (sym (o .front-at .ensures) ∙ c .before .before .f .given .1) in omega (arith, h)
 
 loop-less : tie.Need-loop-less Inv-loop μ-loop
-loop-less c = let o = c .before .before .before .before in
+loop-less c =
+    let o = c .before .before .before .before in
     let a = o .before .before .before .args in
     let h = front-fits (a .records .now) (a .field) (o .before .loop .at) _ _ (sym (o .front-at .ensures) ∙ c .before .before .f .given .1) in omega (arith, h)
 
 loop-again : tie.Need-loop-again Inv-loop μ-loop
-loop-again c = let o = c .before .before .before .before in
+loop-again c =
+    let o = c .before .before .before .before in
     let a = o .before .before .before .args in
     value-further (a .records .now) (a .field) (o .before .loop .at) _ _ (sym (o .front-at .ensures) ∙ c .before .before .f .given .1) (c .if1 .left) ∙ o .before .loop .inv
 
@@ -59,7 +64,8 @@ part-requires-2 : tie.Need-part-requires-2 Inv-loop μ-loop
 part-requires-2 c κs = search needs
 
 returns-2 : tie.Need-returns-2 Inv-loop μ-loop
-returns-2 c = let o = c .before .before .before in
+returns-2 c =
+    let o = c .before .before .before in
     let a = o .before .before .before .args in
     c .part2 .ensures ∙ value-broken (a .records .now) (a .field) (o .before .loop .at) (sym (o .front-at .ensures) ∙ c .before .enum-told .given .1) ∙ o .before .loop .inv
 

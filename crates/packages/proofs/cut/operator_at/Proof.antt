@@ -20,49 +20,57 @@ equals-at-requires c κs = search needs
 
 returns-2 : tie.Need-returns-2
 unfolding pick is
-returns-2 c = let p = c .before in
+returns-2 c =
+    let p = c .before in
     let a = p .before .before .before .before .args in
     rw (operator-by (a .value .now) (a .at) (p .before .before .if1 .left) _ (p .equals-at .ensures)) (search (needs, eq-eqb, ne-eqb))
 
 returns-3 : tie.Need-returns-3
 unfolding pick is
-returns-3 c = let p = c .before .before .before in
+returns-3 c =
+    let p = c .before .before .before in
     let a = p .before .before .before .before .args in
     rw (operator-by (a .value .now) (a .at) (p .before .before .if1 .left) _ (p .equals-at .ensures), c .if4 .taken) (search (needs, eq-eqb, ne-eqb))
 
 returns-4 : tie.Need-returns-4
 unfolding pick is
-returns-4 c = let p = c .before .before .before in
+returns-4 c =
+    let p = c .before .before .before in
     let a = p .before .before .before .before .args in
     rw (operator-by (a .value .now) (a .at) (p .before .before .if1 .left) _ (p .equals-at .ensures), c .if4 .left) (search (needs, eq-eqb, ne-eqb))
 
 returns-5 : tie.Need-returns-5
 unfolding pick is
-returns-5 c = let p = c .before .before .before .before in
+returns-5 c =
+    let p = c .before .before .before .before in
     let a = p .before .before .before .before .args in
     rw (operator-by (a .value .now) (a .at) (p .before .before .if1 .left) _ (p .equals-at .ensures), c .if6 .taken) (search (needs, eq-eqb, ne-eqb))
 
 returns-6 : tie.Need-returns-6
 unfolding pick is
-returns-6 c = let p = c .before .before .before .before in
+returns-6 c =
+    let p = c .before .before .before .before in
     let a = p .before .before .before .before .args in
     rw (operator-by (a .value .now) (a .at) (p .before .before .if1 .left) _ (p .equals-at .ensures), c .if6 .left) (search (needs, eq-eqb, ne-eqb))
 
 returns-7 : tie.Need-returns-7
 unfolding pick is
-returns-7 c = let p = c .before .before .before .before .before in
+returns-7 c =
+    let p = c .before .before .before .before .before in
     let a = p .before .before .before .before .args in
     rw (operator-by (a .value .now) (a .at) (p .before .before .if1 .left) _ (p .equals-at .ensures), c .if8 .taken) (search (needs, eq-eqb, ne-eqb))
 
 returns-8 : tie.Need-returns-8
 unfolding pick is
-returns-8 c = let p = c .before .before .before .before .before in
+returns-8 c =
+    let p = c .before .before .before .before .before in
     let a = p .before .before .before .before .args in
     rw (operator-by (a .value .now) (a .at) (p .before .before .if1 .left) _ (p .equals-at .ensures), c .if8 .left) (search (needs, eq-eqb, ne-eqb))
 
 returns-9 : tie.Need-returns-9
 unfolding pick is
-returns-9 c = let p = c .before .before .before .before in
+returns-9 c =
+    let p = c .before .before .before .before in
     let a = p .before .before .before .before .args in
     rw (operator-by (a .value .now) (a .at) (p .before .before .if1 .left) _ (p .equals-at .ensures)) (search (needs, eq-eqb, ne-eqb))
 

@@ -1,6 +1,6 @@
 -- `packages::cut::past` meets its contract. Assumes nothing.
 use Prim.Native.Nat.{_+_, _-_, _≤_}
-use mathlib.Core.Path.{_≡_, refl, ap, sym, _∙_}
+use mathlib.Core.Path.{_≡_, refl, sym, _∙_}
 use native.Mathlib.Omega.{arith}
 use lib.ListN.{length, drop}
 use borrow.Author.Needs.{needs}
@@ -26,7 +26,8 @@ passes-requires : tie.Need-passes-requires Inv-loop μ-loop
 passes-requires c κs = search needs
 
 returns : tie.Need-returns Inv-loop μ-loop
-returns c = let p = c .before .before .before in
+returns c =
+    let p = c .before .before .before in
     let a = p .before .before .before .args in
     omega (arith, p .before .loop .inv .1, run-stops (testOf (a .set)) (a .value .now) (p .before .loop .i) (p .loop-test .taken) (sym (c .before .passes .ensures) ∙ c .if1 .left))
 
@@ -37,12 +38,14 @@ loop-less : tie.Need-loop-less Inv-loop μ-loop
 loop-less c = omega arith
 
 loop-again : tie.Need-loop-again Inv-loop μ-loop
-loop-again c = let p = c .before .before .before in
+loop-again c =
+    let p = c .before .before .before in
     let a = p .before .before .before .args in
     (omega (arith, p .loop-test .taken), omega (arith, p .before .loop .inv .1, run-goes (testOf (a .set)) (a .value .now) (p .before .loop .i) (p .loop-test .taken) (sym (c .before .passes .ensures) ∙ c .if1 .taken)))
 
 returns-2 : tie.Need-returns-2 Inv-loop μ-loop
-returns-2 c = let p = c .before in
+returns-2 c =
+    let p = c .before in
     let a = p .before .before .args in
     omega (arith, p .loop .inv .1, run-past (testOf (a .set)) (a .value .now) (p .loop .i) (c .loop-test .left))
 

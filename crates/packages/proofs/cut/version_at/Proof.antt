@@ -14,7 +14,8 @@ past-requires-2 : tie.Need-past-requires-2
 past-requires-2 c κs = let a = c .before .before .args in omega (arith, c .past .ensures, run-inside isBlank (a .value .now) (a .at) (c .before .before .pre .1))
 
 returns : tie.Need-returns
-returns c = let s = c .before .before .before .before in
+returns c =
+    let s = c .before .before .before .before in
     let a = s .args in
     version-none (a .value .now) (a .name) (a .size) (a .operator) (a .at) _ _ (s .pre .0) (s .pre .1) (c .before .before .past .ensures) (c .before .past2 .ensures) (c .if1 .taken)
 
@@ -22,7 +23,8 @@ sub-t10 : tie.Need-sub-t10
 sub-t10 c = search needs
 
 returns-2 : tie.Need-returns-2
-returns-2 c = let s = c .before .before .before .before in
+returns-2 c =
+    let s = c .before .before .before .before in
     let a = s .args in
     version-some (a .value .now) (a .name) (a .size) (a .operator) (a .at) _ _ (s .pre .0) (s .pre .1) (c .before .before .past .ensures) (c .before .past2 .ensures) (c .if1 .left)
 

@@ -1,7 +1,6 @@
 -- `packages::items::measure` meets its contract. Assumes nothing.
 use native.Mathlib.Omega.{arith}
 use Prim.Native.Nat.{_-_}
-use mathlib.Core.Path.{sym}
 use lib.ListN.{length}
 use borrow.Author.Needs.{needs}
 use Rattle.rules.specs.Variables.{limit}
@@ -25,7 +24,8 @@ enum-told : tie.Need-enum-told Inv-loop μ-loop
 enum-told c = search needs
 
 returns : tie.Need-returns Inv-loop μ-loop
-returns c = let o = c .before .before in
+returns c =
+    let o = c .before .before in
     let l = o .before .loop in
     let a = o .before .before .before .args in
     (measuring-end (l .inv) (took-none (a .value .now) (l .at) (l .inv .inside) (rw (c .enum-told .given .1) at (o .item-at .ensures))), measuring-small (l .inv) (o .before .before .before .pre))
@@ -34,7 +34,8 @@ enum-told-2 : tie.Need-enum-told-2 Inv-loop μ-loop
 enum-told-2 c = search needs
 
 returns-2 : tie.Need-returns-2 Inv-loop μ-loop
-returns-2 c = let o = c .before .before in
+returns-2 c =
+    let o = c .before .before in
     let l = o .before .loop in
     let a = o .before .before .before .args in
     (measuring-stop (l .inv) (took-bad (a .value .now) (l .at) (l .inv .inside) (rw (c .enum-told2 .given .1) at (o .item-at .ensures))), tt)
@@ -44,7 +45,8 @@ enum-known-f c = search needs
 
 add-need : tie.Need-add-need Inv-loop μ-loop
 unfolding limit
-add-need c = let o = c .before .before .before .before in
+add-need c =
+    let o = c .before .before .before .before in
     let l = o .before .loop in
     let a = o .before .before .before .args in
     let t = took (a .value .now) (l .at) (l .inv .inside) _ (rw (c .before .before .f .given .1) at (o .item-at .ensures)) in
@@ -52,7 +54,8 @@ add-need c = let o = c .before .before .before .before in
 
 add-need-2 : tie.Need-add-need-2 Inv-loop μ-loop
 unfolding limit
-add-need-2 c = let o = c .before .before .before .before .before in
+add-need-2 c =
+    let o = c .before .before .before .before .before in
     let l = o .before .loop in
     let a = o .before .before .before .args in
     let t = took (a .value .now) (l .at) (l .inv .inside) _ (rw (c .before .before .before .f .given .1) at (o .item-at .ensures)) in
@@ -60,7 +63,8 @@ add-need-2 c = let o = c .before .before .before .before .before in
 
 add-need-3 : tie.Need-add-need-3 Inv-loop μ-loop
 unfolding limit
-add-need-3 c = let o = c .before .before .before .before .before in
+add-need-3 c =
+    let o = c .before .before .before .before .before in
     let l = o .before .loop in
     let a = o .before .before .before .args in
     let t = took (a .value .now) (l .at) (l .inv .inside) _ (rw (c .before .before .before .f .given .1) at (o .item-at .ensures)) in
@@ -68,21 +72,24 @@ add-need-3 c = let o = c .before .before .before .before .before in
 
 add-index : tie.Need-add-index Inv-loop μ-loop
 unfolding limit
-add-index c = let o = c .before .before .before .before .before in
+add-index c =
+    let o = c .before .before .before .before .before in
     let l = o .before .loop in
     let a = o .before .before .before .args in
     let t = took (a .value .now) (l .at) (l .inv .inside) _ (rw (c .before .before .before .f .given .1) at (o .item-at .ensures)) in
     omega (arith, l .inv .few, l .inv .inside, o .before .before .before .pre)
 
 loop-less : tie.Need-loop-less Inv-loop μ-loop
-loop-less c = let o = c .before .before .before .before .before in
+loop-less c =
+    let o = c .before .before .before .before .before in
     let l = o .before .loop in
     let a = o .before .before .before .args in
     let t = took (a .value .now) (l .at) (l .inv .inside) _ (rw (c .before .before .before .f .given .1) at (o .item-at .ensures)) in
     omega (arith, t .on, t .some, t .inside .next)
 
 loop-again : tie.Need-loop-again Inv-loop μ-loop
-loop-again c = let o = c .before .before .before .before .before in
+loop-again c =
+    let o = c .before .before .before .before .before in
     let l = o .before .loop in
     let a = o .before .before .before .args in
     let t = took (a .value .now) (l .at) (l .inv .inside) _ (rw (c .before .before .before .f .given .1) at (o .item-at .ensures)) in

@@ -1,6 +1,6 @@
 -- `packages::items::put_item` meets its contract. Assumes nothing.
 use native.Mathlib.Omega.{arith}
-use mathlib.Core.Path.{_≡_, sym, _∙_, ap}
+use mathlib.Core.Path.{ap}
 use lib.ListN.{length}
 use Rattle.scan.proofs.Lists.{length-part}
 use Rattle.packages.specs.Cuts.{itemAt}
@@ -22,7 +22,8 @@ part-requires : tie.Need-part-requires
 part-requires c κs = search needs
 
 put-record-requires-2 : tie.Need-put-record-requires-2
-put-record-requires-2 c κs = let s = c .before .before .before .before .before .before .before .before .before in
+put-record-requires-2 c κs =
+    let s = c .before .before .before .before .before .before .before .before .before in
     let a = s .args in
     omega (arith, ap length (c .part .ensures), length-part (a .value .now) (a .p .name) (a .p .size) (s .pre .0 .name), s .pre .1)
 
@@ -36,7 +37,8 @@ part-requires-2 : tie.Need-part-requires-2
 part-requires-2 c κs = search needs
 
 put-record-requires-3 : tie.Need-put-record-requires-3
-put-record-requires-3 c κs = let s = c .before .before .before .before .before .before .before .before .before .before .before .before .before .before in
+put-record-requires-3 c κs =
+    let s = c .before .before .before .before .before .before .before .before .before .before .before .before .before .before in
     let a = s .args in
     omega (arith, ap length (c .part2 .ensures), length-part (a .value .now) (a .p .version) (a .p .extent) (s .pre .0 .version), s .pre .1)
 
@@ -44,7 +46,8 @@ same-length : tie.Need-same-length
 same-length c = search needs
 
 returns : tie.Need-returns
-returns c = let s = c .before .before .before .before .before .before .before .before .before .before .before .before .before .before .before .before .before in
+returns c =
+    let s = c .before .before .before .before .before .before .before .before .before .before .before .before .before .before .before .before .before in
     let a = s .args in
     item-stored (a .output .now) (a .at) (a .field) (itemAt (a .value .now) (a .p)) (a .p .size) (c .before .before .before .before .before .before .before .before .part .ensures) (c .before .before .before .part2 .ensures)
     (length-part (a .value .now) (a .p .name) (a .p .size) (s .pre .0 .name))

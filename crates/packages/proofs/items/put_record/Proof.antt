@@ -23,7 +23,8 @@ same-length : tie.Need-same-length
 same-length c = search needs
 
 returns : tie.Need-returns
-returns c = let p = c .before .before in
+returns c =
+    let p = c .before .before in
     let a = c .before .before .before .before .before .before .before .before .before .before .before .before .before .before .args in
     record-stored (a .output .now) (a .at) (a .kind) (a .payload .now) (c .before .before .before .before .before .before .before .before .before .before .put-little .ensures) (c .before .before .before .before .before .before .put-little2 .ensures) (p .copy .ensures)
 

@@ -27,7 +27,8 @@ same-length : tie.Need-same-length Inv-loop μ-loop
 same-length c = c .before .before .before .loop .inv .same
 
 returns : tie.Need-returns Inv-loop μ-loop
-returns c = let o = c .before .before in
+returns c =
+    let o = c .before .before in
     let l = o .before .loop in
     let a = o .before .before .before .before .args in
     writing-end (l .inv) (took-none (a .value .now) (l .i) (l .inv .inside) (rw (c .enum-told .given .1) at (o .item-at .ensures)))
@@ -39,7 +40,8 @@ same-length-2 : tie.Need-same-length-2 Inv-loop μ-loop
 same-length-2 c = c .before .before .before .loop .inv .same
 
 returns-2 : tie.Need-returns-2 Inv-loop μ-loop
-returns-2 c = let o = c .before .before in
+returns-2 c =
+    let o = c .before .before in
     let l = o .before .loop in
     let a = o .before .before .before .before .args in
     absurd (never-malformed (l .inv) (took-bad (a .value .now) (l .i) (l .inv .inside) (rw (c .enum-told2 .given .1) at (o .item-at .ensures))))
@@ -48,42 +50,48 @@ enum-known-f : tie.Need-enum-known-f Inv-loop μ-loop
 enum-known-f c = search needs
 
 put-item-requires : tie.Need-put-item-requires Inv-loop μ-loop
-put-item-requires c κs = let o = c .before .before .before .before in
+put-item-requires c κs =
+    let o = c .before .before .before .before in
     let l = o .before .loop in
     let a = o .before .before .before .before .args in
     let t = took (a .value .now) (l .i) (l .inv .inside) _ (rw (c .before .before .f .given .1) at (o .item-at .ensures)) in
     (t .inside, item-fits (l .inv) t)
 
 add-k : tie.Need-add-k Inv-loop μ-loop
-add-k c = let o = c .before .before .before .before .before .before .before in
+add-k c =
+    let o = c .before .before .before .before .before .before .before in
     let l = o .before .loop in
     let a = o .before .before .before .before .args in
     let t = took (a .value .now) (l .i) (l .inv .inside) _ (rw (c .before .before .before .before .before .f .given .1) at (o .item-at .ensures)) in
     omega (arith, item-fits (l .inv) t)
 
 add-k-2 : tie.Need-add-k-2 Inv-loop μ-loop
-add-k-2 c = let o = c .before .before .before .before .before .before .before .before in
+add-k-2 c =
+    let o = c .before .before .before .before .before .before .before .before in
     let l = o .before .loop in
     let a = o .before .before .before .before .args in
     let t = took (a .value .now) (l .i) (l .inv .inside) _ (rw (c .before .before .before .before .before .before .f .given .1) at (o .item-at .ensures)) in
     omega (arith, item-fits (l .inv) t)
 
 add-k-3 : tie.Need-add-k-3 Inv-loop μ-loop
-add-k-3 c = let o = c .before .before .before .before .before .before .before .before .before in
+add-k-3 c =
+    let o = c .before .before .before .before .before .before .before .before .before in
     let l = o .before .loop in
     let a = o .before .before .before .before .args in
     let t = took (a .value .now) (l .i) (l .inv .inside) _ (rw (c .before .before .before .before .before .before .before .f .given .1) at (o .item-at .ensures)) in
     omega (arith, item-fits (l .inv) t)
 
 loop-less : tie.Need-loop-less Inv-loop μ-loop
-loop-less c = let o = c .before .before .before .before .before .before .before .before .before in
+loop-less c =
+    let o = c .before .before .before .before .before .before .before .before .before in
     let l = o .before .loop in
     let a = o .before .before .before .before .args in
     let t = took (a .value .now) (l .i) (l .inv .inside) _ (rw (c .before .before .before .before .before .before .before .f .given .1) at (o .item-at .ensures)) in
     omega (arith, t .on, t .some, t .inside .next)
 
 loop-again : tie.Need-loop-again Inv-loop μ-loop
-loop-again c = let o = c .before .before .before .before .before .before .before .before .before in
+loop-again c =
+    let o = c .before .before .before .before .before .before .before .before .before in
     let l = o .before .loop in
     let a = o .before .before .before .before .args in
     let t = took (a .value .now) (l .i) (l .inv .inside) _ (rw (c .before .before .before .before .before .before .before .f .given .1) at (o .item-at .ensures)) in
