@@ -5,3 +5,4 @@ pub mod Puts
 pub mod Writes
 pub mod Values
 pub mod Answers
+pub mod Fields
