@@ -62,6 +62,35 @@ uint32_t cabbagelute_read_in(
     uint8_t *detail, size_t detail_len);
 
 /*
+ * Requires and Requires.private as packages. `records` are such as the calls above write; the items of kind 5, then those of
+ * kind 6, go to the output.
+ *
+ * An item is a name, with or without an operator and a version; blanks (space, tab) and commas separate items, any number of them
+ * and also at the ends. Names and versions run up to a blank, a comma or one of = < > !. Operators: 1 =, 2 <, 3 >, 4 <=, 5 >=, 6 !=;
+ * the longest is taken, and blanks may stand around it. An item without its name, an operator without a version and a ! without =
+ * are malformed. Each item is three records: kind 12 with two bytes (the field, 5 or 6; the operator, 0 if none), kind 13 with the
+ * name, kind 14 with the version (empty if none).
+ *
+ * Answers, tested in this order:
+ *   19 detail shorter than 24 bytes
+ *   18 the bytes are not records in form (order, repeats, counts, lengths, a value over 67,108,864 bytes)
+ *   20 a malformed item, the first one, kind 5 before kind 6
+ *   17 output short
+ *    0 accepted
+ *
+ * Afterwards, on every answer but 19, `detail` holds three 8-byte little-endian numbers: the answer; its number (0: bytes written;
+ * 17: bytes needed; 20: the field; else 0); for 20 the item's index within its field, from 0 (else 0). Bytes past the 24th are
+ * untouched. On 19 nothing at all is touched.
+ *
+ * On 0 the output begins with the records, 20 bytes an item and the lengths of its name and version, and the rest of it is
+ * untouched; on any other answer all of it is untouched.
+ */
+uint32_t cabbagelute_packages(
+    const uint8_t *records, size_t records_len,
+    uint8_t *output, size_t output_len,
+    uint8_t *detail, size_t detail_len);
+
+/*
  * Versions, compared by runs: 0 equal, 1 the first is lower, 2 the first is higher.
  *
  * Each version is cut into runs of ASCII digits or of ASCII letters, as long as they go; all other bytes only separate. The

@@ -27,7 +27,7 @@ use Rattle.pkg_config.proofs.Calls.{same-answer}
 use Rattle.export.specs.Calls.{ExportsIn, ExportsWith, Exports, detailOf}
 
 -- one store after another
-next : (l after : List ℕ) (k : ℕ) (vs us : List ℕ) → k ≡ length vs → after ≡ puts (puts l 0 vs) k us → after ≡ puts l 0 (vs ++ us)
+pub next : (l after : List ℕ) (k : ℕ) (vs us : List ℕ) → k ≡ length vs → after ≡ puts (puts l 0 vs) k us → after ≡ puts l 0 (vs ++ us)
 next l after k vs us h e = e ∙ ap (λ (i : ℕ). puts (puts l 0 vs) i us) (h ∙ sym (zero-add (length vs))) ∙ puts-puts l 0 vs us
 
 six-numbers : (l l₁ l₂ l₃ l₄ l₅ l₆ : List ℕ) (a b c d e f : ℕ) → 48 ≤ length l → l₁ ≡ puts l 0 (toLittle 8 a) → l₂ ≡ puts l₁ 8 (toLittle 8 b) → l₃ ≡ puts l₂ 16 (toLittle 8 c)

@@ -1,4 +1,6 @@
 // The calls for C (document 01, "Records and listing"): include/cabbagelute.h says every promise in words.
+pub mod items;
+
 ghost use mathlib.Core.Path.{_≡_};
 ghost use Prim.Native.Nat.{_+_, _≤_};
 ghost use lib.ListN.{length};

@@ -58,13 +58,13 @@ and-true true true e = (refl, refl)
 and-true true false e = (refl, e)
 and-true false b e = let z : _≡_ {A = ℕ} 0 1 = cc in absurd (omega arith)
 
-abbrev sizeOf : List ℕ → ℕ
+abbrev pub sizeOf : List ℕ → ℕ
 sizeOf bytes = fromLittle (take 4 bytes)
 
-abbrev cut : List ℕ → Front
+abbrev pub cut : List ℕ → Front
 cut bytes = record { kind = fromLittle (take 2 (drop 4 bytes)); payload = take (sizeOf bytes) (drop 6 bytes); rest = drop (6 + sizeOf bytes) bytes }
 
-front-cut : (bytes : List ℕ) (r : Front) → front bytes ≡ some r → (6 + sizeOf bytes ≤ length bytes) × (sizeOf bytes ≤ limit) × (cut bytes ≡ r)
+pub front-cut : (bytes : List ℕ) (r : Front) → front bytes ≡ some r → (6 + sizeOf bytes ≤ length bytes) × (sizeOf bytes ≤ limit) × (cut bytes ≡ r)
 unfolding front
 front-cut bytes r e = go (leb (6 + sizeOf bytes) (length bytes) && leb (sizeOf bytes) limit) refl
   where

@@ -30,3 +30,5 @@ pub mod VersionsLaws
 pub mod DigitsLaws
 pub mod VersionCases
 pub mod RunsLaws
+pub mod PackagesCases
+pub mod PackagesLaws

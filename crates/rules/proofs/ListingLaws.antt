@@ -41,7 +41,7 @@ unfolding front
 front-is bytes payload rest size kind a b c d e f =
     rw (le-leb (6 + fromLittle (take 4 bytes)) (length bytes) (rw a e), le-leb (fromLittle (take 4 bytes)) limit (rw a f), front) (rw (a, b, c, d) refl)
 
-length-record : (kind : ℕ) (payload : List ℕ) → length (recordBytes kind payload) ≡ 6 + length payload
+pub length-record : (kind : ℕ) (payload : List ℕ) → length (recordBytes kind payload) ≡ 6 + length payload
 unfolding recordBytes toLittle
 length-record kind payload = omega arith
 

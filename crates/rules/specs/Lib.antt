@@ -14,3 +14,4 @@ pub mod Export
 pub mod Pclist
 pub mod Demand3
 pub mod Versions
+pub mod Packages
