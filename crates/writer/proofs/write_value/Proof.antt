@@ -2,7 +2,7 @@ use borrow.Author.Needs.{needs}
 use native.Mathlib.Omega.{arith}
 use Rattle.scan.proofs.Stores.{length-puts}
 use Rattle.writer.proofs.Sounds.{start}
-use Prim.Native.Nat.{_+_}
+use Prim.Native.Nat.{_+_, _-_, _<_, _≤_}
 use lib.ListN.{length}
 use Rattle.scan.specs.Stores.{puts}
 use Rattle.writer.specs.Tables.{tablesIn, valueBetween}
@@ -138,10 +138,10 @@ loop-again-2 c =
 sub-copy-within : tie.Need-sub-copy-within Inv-loop μ-loop
 sub-copy-within c = omega (arith, c .before .if4 .left)
 
-sub-copy-within-2 : tie.Need-sub-copy-within-2 Inv-loop μ-loop
-sub-copy-within-2 c =
-    let at-if4 = c .before in
-    let at-place = at-if4 .before .before in
+-- where a value is copied, it has its room
+copy-room : (k : tie.Else4 Inv-loop μ-loop) → (1 ≤ k .before .before .before .before .cell2 .result) × (k .before .before .before .before .before .before .before .before .before .before .before .before .loop .p + (k .before .before .before .before .cell2 .result - 1) < 4611686018427387904)
+copy-room k =
+    let at-place = k .before .before in
     let at-cell2 = at-place .before .before in
     let at-cell = at-cell2 .before .before in
     let at-if2 = at-cell .before .before in
@@ -150,7 +150,10 @@ sub-copy-within-2 c =
     let at-loop = at-if1 .before in
     let R = at-loop .loop .inv in
     let h = at-if1 .if1 .taken in
-    omega (arith, copy-more R h _ (at-kind-at .kind-at .ensures) (at-if2 .if2 .taken) _ (at-cell .cell .ensures) _ (at-cell2 .cell2 .ensures) _ (at-place .place .ensures) (at-if4 .if4 .left))
+    copy-more R h _ (at-kind-at .kind-at .ensures) (at-if2 .if2 .taken) _ (at-cell .cell .ensures) _ (at-cell2 .cell2 .ensures) _ (at-place .place .ensures) (k .if4 .left)
+
+sub-copy-within-2 : tie.Need-sub-copy-within-2 Inv-loop μ-loop
+sub-copy-within-2 c = omega (arith, copy-room (c .before))
 
 copy-within-requires : tie.Need-copy-within-requires Inv-loop μ-loop
 copy-within-requires c κs =
@@ -167,32 +170,10 @@ copy-within-requires c κs =
     copy-fits R h _ (at-kind-at .kind-at .ensures) (at-if2 .if2 .taken) _ (at-cell .cell .ensures) _ (at-cell2 .cell2 .ensures) _ (at-place .place .ensures) (at-if4 .if4 .left)
 
 sub-p : tie.Need-sub-p Inv-loop μ-loop
-sub-p c =
-    let at-if4 = c .before .before .before .before in
-    let at-place = at-if4 .before .before in
-    let at-cell2 = at-place .before .before in
-    let at-cell = at-cell2 .before .before in
-    let at-if2 = at-cell .before .before in
-    let at-kind-at = at-if2 .before in
-    let at-if1 = at-kind-at .before .before in
-    let at-loop = at-if1 .before in
-    let R = at-loop .loop .inv in
-    let h = at-if1 .if1 .taken in
-    omega (arith, copy-more R h _ (at-kind-at .kind-at .ensures) (at-if2 .if2 .taken) _ (at-cell .cell .ensures) _ (at-cell2 .cell2 .ensures) _ (at-place .place .ensures) (at-if4 .if4 .left))
+sub-p c = omega (arith, copy-room (c .before .before .before .before))
 
 add-p : tie.Need-add-p Inv-loop μ-loop
-add-p c =
-    let at-if4 = c .before .before .before .before in
-    let at-place = at-if4 .before .before in
-    let at-cell2 = at-place .before .before in
-    let at-cell = at-cell2 .before .before in
-    let at-if2 = at-cell .before .before in
-    let at-kind-at = at-if2 .before in
-    let at-if1 = at-kind-at .before .before in
-    let at-loop = at-if1 .before in
-    let R = at-loop .loop .inv in
-    let h = at-if1 .if1 .taken in
-    omega (arith, copy-more R h _ (at-kind-at .kind-at .ensures) (at-if2 .if2 .taken) _ (at-cell .cell .ensures) _ (at-cell2 .cell2 .ensures) _ (at-place .place .ensures) (at-if4 .if4 .left))
+add-p c = omega (arith, copy-room (c .before .before .before .before))
 
 add-next-2 : tie.Need-add-next-2 Inv-loop μ-loop
 add-next-2 c = let R = c .before .before .before .before .before .before .before .before .before .before .before .before .before .before .before .before .loop .inv in let h = c .before .before .before .before .before .before .before .before .before .before .before .before .before .before .before .if1 .taken in omega (arith, index-small R h)
