@@ -8,6 +8,7 @@ ghost use Rattle.rules.specs.Tokens.{Token, noName, shownName};
 ghost use Rattle.rules.specs.Lexing.{isIdentifier};
 ghost use Rattle.rules.specs.Lines.{readAssignment, readField};
 ghost use Rattle.answers.specs.Tells.{Names};
+ghost use Rattle.scan.specs.Classes.{ClassTable};
 ghost use Rattle.tokens.specs.Entries.{decode, tokenAt};
 ghost use Rattle.lines.specs.Line.{endingAt};
 ghost use Rattle.parser.specs.Parse.{Says, Ready, AtValue, IsField, past, Takes, KeepsField, Beyond, Steps, NoFields, Parsable, Parses};
@@ -25,7 +26,9 @@ use lines::list::Listed;
 use lines::list::list_value;
 use names::Insertion;
 use names::insert;
-use scan::class::is_valid_identifier;
+use scan::class::ByteClass;
+use scan::class::CLASS;
+use scan::class::class_in;
 use scan::store::zero_from;
 use tokens::kind_at;
 use tokens::place_at;
@@ -50,19 +53,28 @@ pub enum Parsed {
     Refused(Answer),
 }
 
-// Every character is one that references may have too.
-fn is_variable_name(name: &[u8]) -> bool
+// Every byte is of the class of identifiers, by a table of classes.
+fn are_identifiers(table: &[u8; 256], name: &[u8]) -> bool
+    requires { ⌜ ClassTable (now table) ⌝ }
     ensures { λ r. ⌜ r ≡ all isIdentifier (now (name .entry)) ⌝ }
 {
     let mut i = 0;
     while i < name.len() {
-        if is_valid_identifier(name[i]) {
+        if class_in(table, name[i]) == ByteClass::IDENTIFIER {
             i += 1;
         } else {
             return false;
         }
     }
     true
+}
+
+// Every character is one that references may have too. The table is made once, and lent.
+fn is_variable_name(name: &[u8]) -> bool
+    ensures { λ r. ⌜ r ≡ all isIdentifier (now (name .entry)) ⌝ }
+{
+    let table = CLASS;
+    are_identifiers(&table, name)
 }
 
 fn no_name() -> Name
