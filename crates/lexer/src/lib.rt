@@ -13,8 +13,11 @@ ghost use Rattle.lexer.specs.Lexes.{Room, Holds, Lexes, errorOf};
 ghost use Rattle.lexer.specs.Pieces.{errorShown};
 ghost use Rattle.lexer.specs.Inner.{Judges, Fillable, flushed, flushedCount, FlushRoom, made, PutRoom};
 use lexeme::Piece;
+use lexeme::lexeme_at;
 use lexeme::piece_at;
+use scan::class::ByteClass;
 use scan::class::CLASS;
+use scan::class::class_in;
 use scan::store::copy_part;
 use scan::store::put4;
 use tokens::TokenKind;
@@ -53,21 +56,28 @@ fn error_at(text: &[u8], kind: u32, from: usize) -> LexError
     LexError::InvalidVariableChar(c)
 }
 
-// The first pass.
+// The first pass. Only `$` can be refused, and only `#` and a backslash can hide one: all other bytes are passed one by one.
 fn find_refusal(table: &[u8; 256], text: &[u8]) -> Verdict
     requires { ⌜ ClassTable (now table) ⌝ }
     ensures { λ r. ⌜ Judges (now (text .entry)) r ⌝ }
 {
     let mut i = 0;
     while i < text.len() {
-        let p = piece_at(table, text, i);
-        let kind = p.kind;
-        if TokenKind::NEW_LINE < kind {
-            let from = p.from;
-            let e = error_at(text, kind, from);
-            return Verdict::Bad(e, i);
+        let c = class_in(table, text[i]);
+        if c < ByteClass::BACKSLASH {
+            i += 1;
+        } else if c == ByteClass::LINE_END {
+            i += 1;
+        } else {
+            let p = lexeme_at(table, text, i);
+            let kind = p.kind;
+            if TokenKind::NEW_LINE < kind {
+                let from = p.from;
+                let e = error_at(text, kind, from);
+                return Verdict::Bad(e, i);
+            }
+            i = p.next;
         }
-        i = p.next;
     }
     Verdict::Fine
 }

@@ -1,0 +1,143 @@
+-- What a text is refused with, if it is. It doesn't depend on tokens and gathered Text, and bytes that are no part of a reference may be passed one by one. Assumes nothing.
+use Prim.Native.Nat.{ℕ, zero, suc, _+_, _-_, _≤_, _<_}
+use mathlib.Core.Path.{_≡_, refl, ap, sym, _∙_}
+use mathlib.Core.Bool.{Bool, true, false, not, _&&_}
+use mathlib.Core.List.{List, [], _∷_, _++_}
+use mathlib.Core.Option.{Option, none, some, Option·none-ne-some, Option·some-injective}
+use native.Mathlib.Omega.{arith}
+use native.Mathlib.Decide.{ℕ-discrete, decLt}
+use lib.ListN.{length, take, drop, getD, drop-of-length-le}
+use lib.Dec.{eqb}
+use borrow.Author.Tests.{eqb-true}
+use Rattle.rules.specs.Bytes.{pick}
+use Rattle.rules.specs.Tokens.{Token}
+use Rattle.rules.specs.Numbers.{LexError, Refusal, Lex, Result, refused, ok}
+use Rattle.rules.specs.Lexing.{Class, Lexeme, chars, reference, mark, bad, Gathered, nothingYet, gather, isLineEnd, class, second, lexeme, flush, prepend, lex, tokens}
+use Rattle.rules.proofs.LexingLaws.{lex-chars, lex-reference, lex-mark, lex-bad}
+use Rattle.scan.specs.Classes.{classNumber, classAt}
+use Rattle.scan.proofs.Classes.{class-is, class-in, tests}
+use Rattle.scan.proofs.Lists.{rest-at}
+use Rattle.lexer.specs.Pieces.{lexemeAt, errorShown, Shows, Reads}
+use Rattle.lexer.specs.Inner.{Accepted}
+use Rattle.lexer.proofs.Lexemes.{lexeme-text, lexeme-sign, reads-one}
+use Rattle.lexer.proofs.Lefts.{left-chars, left-token, left-bad}
+
+-- the refusal, where there is one
+abbrev pub fate : Result (List Token) → Option Refusal
+fate (refused r) = some r
+fate (ok ts) = none
+
+fate-prepend : (ts : List Token) (r : Result (List Token)) → fate (prepend ts r) ≡ fate r
+unfolding prepend
+fate-prepend ts (refused r) = refl
+fate-prepend ts (ok us) = refl
+
+-- it is the same whatever was lexed before
+fate-lex : (bs : List ℕ) (end end′ : ℕ) (g g′ : Gathered) (skip at : ℕ) → fate (lex end g skip at bs) ≡ fate (lex end′ g′ skip at bs)
+unfolding lex
+fate-lex [] end end′ g g′ skip at = refl
+fate-lex (b ∷ bs) end end′ g g′ (suc skip) at = fate-lex bs end end′ g g′ skip (suc at)
+fate-lex (b ∷ bs) end end′ g g′ zero at = go (lexeme (class b) b bs) refl (λ e e′ h h′ n. fate-lex bs e e′ h h′ n (suc at))
+  where
+    go : (x : Lexeme) → lexeme (class b) b bs ≡ x
+        → ((e e′ : ℕ) (h h′ : Gathered) (n : ℕ) → fate (lex e h n (suc at) bs) ≡ fate (lex e′ h′ n (suc at) bs))
+        → fate (lex end g 0 at (b ∷ bs)) ≡ fate (lex end′ g′ 0 at (b ∷ bs))
+    go (chars cs n) q ih =
+        ap fate (lex-chars end g at b bs cs n q) ∙ ih end end′ (gather g cs at) (gather g′ cs at) n ∙ sym (ap fate (lex-chars end′ g′ at b bs cs n q))
+    go (reference name n) q ih =
+        ap fate (lex-reference end g at b bs name n q) ∙ fate-prepend _ _ ∙ ih _ _ nothingYet nothingYet n
+        ∙ sym (ap fate (lex-reference end′ g′ at b bs name n q) ∙ fate-prepend _ _)
+    go (mark kind n) q ih =
+        ap fate (lex-mark end g at b bs kind n q) ∙ fate-prepend _ _ ∙ ih _ _ nothingYet nothingYet n
+        ∙ sym (ap fate (lex-mark end′ g′ at b bs kind n q) ∙ fate-prepend _ _)
+    go (bad e) q ih = ap fate (lex-bad end g at b bs e q) ∙ sym (ap fate (lex-bad end′ g′ at b bs e q))
+
+-- the refusal of the bytes from place `at` on
+abbrev pub doom : ℕ → List ℕ → Option Refusal
+doom at bs = fate (lex 0 nothingYet 0 at bs)
+
+is-line-end : (b : ℕ) → isLineEnd b ≡ true → class b ≡ Class.lineEnd
+unfolding classNumber
+is-line-end b e = class-is b Class.lineEnd (eqb-true (classNumber (class b)) 9 (sym (tests Class.lineEnd b) ∙ e))
+
+newline : (bs : List ℕ) (b at : ℕ) → class b ≡ Class.lineEnd → doom at (b ∷ bs) ≡ fate (lex 0 nothingYet (second b bs) (suc at) bs)
+unfolding lexeme
+newline bs b at e =
+    ap fate (lex-mark 0 nothingYet at b bs 9 (second b bs) (ap (λ (x : Class). lexeme x b bs) e)) ∙ fate-prepend _ _
+    ∙ fate-lex bs _ 0 nothingYet nothingYet (second b bs) (suc at)
+
+-- a line end may be passed by itself, though it be the first of a pair
+doom-line : (bs : List ℕ) (b at : ℕ) → class b ≡ Class.lineEnd → doom at (b ∷ bs) ≡ doom (suc at) bs
+unfolding lex second pick
+doom-line [] b at e = newline [] b at e
+doom-line (c ∷ cs) b at e = newline (c ∷ cs) b at e ∙ go (isLineEnd c) (eqb b c) refl (λ f. doom-line cs c (suc at) f)
+  where
+    go : (x y : Bool) → isLineEnd c ≡ x → (class c ≡ Class.lineEnd → doom (suc at) (c ∷ cs) ≡ doom (suc (suc at)) cs)
+        → fate (lex 0 nothingYet (pick (x && not y) 1 0) (suc at) (c ∷ cs)) ≡ doom (suc at) (c ∷ cs)
+    go true true f ih = refl
+    go true false f ih = sym (ih (is-line-end c f))
+    go false y f ih = refl
+
+-- at place i, the refusal of the text is that of the rest
+pub record Fated (text : List ℕ) (i : ℕ) : Type 0 where
+  pub here : i ≤ length text
+  pub same : fate (tokens text) ≡ doom i (drop i text)
+
+pub fated-start : (text : List ℕ) → Fated text 0
+unfolding tokens
+fated-start text = record { here = omega arith; same = refl }
+
+module _ (text : List ℕ) (i : ℕ) (F : Fated text i) where
+  module _ (kind from len next : ℕ) (h : i < length text) (s : Shows text i (lexemeAt text i) kind from len next) where
+    reads : Reads text i kind from len next
+    reads = reads-one text i kind from len next s
+
+    -- past one lexeme
+    pub fated-more : kind ≤ 9 → Fated text next
+    fated-more l = record { here = s .inside; same = F .same ∙ go (ℕ-discrete kind 1) }
+      where
+        go : Dec (kind ≡ 1) → doom i (drop i text) ≡ doom next (drop next text)
+        go (yes q) = ap fate (left-chars text i kind from len next h reads 0 nothingYet q) ∙ fate-lex (drop next text) 0 0 _ nothingYet 0 next
+        go (no q) = ap fate (left-token text i kind from len next h reads 0 nothingYet q l) ∙ fate-prepend _ _ ∙ fate-lex (drop next text) _ 0 nothingYet nothingYet 0 next
+
+    pub fated-less : length text - next < length text - i
+    fated-less = let a = s .on in let b = s .inside in omega arith
+
+    pub fated-bad : (x : LexError) → 9 < kind → x ≡ errorShown text kind from → tokens text ≡ refused (Lex x i)
+    fated-bad x l q =
+        is-refused (tokens text) (Lex x i)
+        (F .same ∙ ap fate (left-bad text i kind from len next h reads 0 nothingYet l) ∙ ap (λ (y : LexError). some (Lex y i)) (sym q))
+      where
+        is-refused : (r : Result (List Token)) (f : Refusal) → fate r ≡ some f → r ≡ refused f
+        is-refused (refused g) f e = ap refused (Option·some-injective g f e)
+        is-refused (ok ts) f e = absurd (Option·none-ne-some f e)
+
+  -- past one byte, by its class c
+  module _ (c : ℕ) (h : i < length text) (e : c ≡ classNumber (class (getD text i 0))) where
+    at-here : c ≡ classAt (drop i text)
+    at-here = e ∙ sym (class-in text i h)
+
+    pub fated-byte : c < 8 → Fated text (i + 1)
+    fated-byte l = go (decLt c 3)
+      where
+        go : Dec (c < 3) → Fated text (i + 1)
+        go (yes p) = fated-more 1 i 1 (i + 1) h (lexeme-text text i c h at-here p) (omega arith)
+        go (no p) = fated-more c i 1 (i + 1) h (lexeme-sign text i c h at-here (omega arith) l) (omega arith)
+
+    pub fated-line : c ≡ 9 → Fated text (i + 1)
+    unfolding classNumber
+    fated-line q =
+        let z : suc i ≡ i + 1 = omega arith in
+        record {
+          here = omega arith;
+          same = F .same ∙ ap (doom i) (rest-at text i h) ∙ doom-line (drop (i + 1) text) (getD text i 0) i (class-is (getD text i 0) Class.lineEnd (sym e ∙ q))
+              ∙ ap (λ (k : ℕ). doom k (drop (i + 1) text)) z;
+        }
+
+  pub fated-end : length text ≤ i → Accepted text
+  unfolding lex
+  fated-end h = go (tokens text) refl (F .same ∙ rw (drop-of-length-le text h))
+    where
+      go : (r : Result (List Token)) → tokens text ≡ r → fate r ≡ none → Accepted text
+      go (refused f) q e = absurd (Option·none-ne-some f (sym e))
+      go (ok ts) q e = record { ts = ts; is-tokens = q }
