@@ -8,18 +8,18 @@ use native.Mathlib.Omega.{arith}
 use native.Mathlib.Decide.{ℕ-discrete, decLt}
 use lib.ListN.{length, take, drop, getD, drop-of-length-le}
 use lib.Dec.{eqb}
-use borrow.Author.Tests.{eqb-true}
-use Rattle.rules.specs.Bytes.{pick}
-use Rattle.rules.specs.Tokens.{Token}
+use borrow.Author.Tests.{eqb-true, ne-eqb, lt-leb}
+use Rattle.rules.specs.Bytes.{pick, is}
+use Rattle.rules.specs.Tokens.{Token, Backslash}
 use Rattle.rules.specs.Numbers.{LexError, Refusal, Lex, Result, refused, ok}
-use Rattle.rules.specs.Lexing.{Class, Lexeme, chars, reference, mark, bad, Gathered, nothingYet, gather, isLineEnd, class, second, lexeme, flush, prepend, lex, tokens}
+use Rattle.rules.specs.Lexing.{Class, Lexeme, chars, reference, mark, bad, Gathered, nothingYet, gather, isLineEnd, class, second, comment, afterBackslash, afterDollar, lexeme, flush, prepend, lex, tokens}
 use Rattle.rules.proofs.LexingLaws.{lex-chars, lex-reference, lex-mark, lex-bad}
 use Rattle.scan.specs.Classes.{classNumber, classAt}
 use Rattle.scan.proofs.Classes.{class-is, class-in, tests}
 use Rattle.scan.proofs.Lists.{rest-at}
-use Rattle.lexer.specs.Pieces.{lexemeAt, errorShown, Shows, Reads}
+use Rattle.lexer.specs.Pieces.{lexemeAt, errorShown, shown, Shows, Reads}
 use Rattle.lexer.specs.Inner.{Accepted}
-use Rattle.lexer.proofs.Lexemes.{lexeme-text, lexeme-sign, reads-one}
+use Rattle.lexer.proofs.Lexemes.{lexeme-text, lexeme-sign, lexeme-brace, lexeme-comment, lexeme-backslash, lexeme-dollar, reads-one}
 use Rattle.lexer.proofs.Lefts.{left-chars, left-token, left-bad}
 
 -- the refusal, where there is one
@@ -78,6 +78,27 @@ doom-line (c ∷ cs) b at e = newline (c ∷ cs) b at e ∙ go (isLineEnd c) (eq
     go true false f ih = sym (ih (is-line-end c f))
     go false y f ih = refl
 
+-- a backslash is never refused
+never-bad : (bs : List ℕ) (e : LexError) → afterBackslash bs ≡ bad e → ⊥
+unfolding afterBackslash pick
+never-bad [] e q = let z : _≡_ {A = ℕ} 0 1 = cc in absurd (omega arith)
+never-bad (b ∷ bs) e q = go (is "#" b) (isLineEnd b) q
+  where
+    go : (x y : Bool) → pick x (chars (b ∷ []) 1) (pick y (chars [] (1 + second b bs)) (mark Backslash 0)) ≡ bad e → ⊥
+    go true y r = let z : _≡_ {A = ℕ} 0 1 = cc in absurd (omega arith)
+    go false true r = let z : _≡_ {A = ℕ} 0 1 = cc in absurd (omega arith)
+    go false false r = let z : _≡_ {A = ℕ} 0 1 = cc in absurd (omega arith)
+
+backslash-kind : (text : List ℕ) (i kind from len next : ℕ) → Shows text i (afterBackslash (drop (i + 1) text)) kind from len next → kind ≤ 9
+unfolding shown pick
+backslash-kind text i kind from len next s = go (decLt 9 kind)
+  where
+    go : Dec (9 < kind) → kind ≤ 9
+    go (no l) = omega arith
+    go (yes l) =
+        absurd (never-bad (drop (i + 1) text) (errorShown text kind from)
+        (s .is-lexeme ∙ rw (ne-eqb kind 1 (λ e. omega arith), ne-eqb kind 2 (λ e. omega arith), lt-leb kind 9 l)))
+
 -- at place i, the refusal of the text is that of the rest
 pub record Fated (text : List ℕ) (i : ℕ) : Type 0 where
   pub here : i ≤ length text
@@ -93,17 +114,17 @@ module _ (text : List ℕ) (i : ℕ) (F : Fated text i) where
     reads = reads-one text i kind from len next s
 
     -- past one lexeme
-    pub fated-more : kind ≤ 9 → Fated text next
+    fated-more : kind ≤ 9 → Fated text next
     fated-more l = record { here = s .inside; same = F .same ∙ go (ℕ-discrete kind 1) }
       where
         go : Dec (kind ≡ 1) → doom i (drop i text) ≡ doom next (drop next text)
         go (yes q) = ap fate (left-chars text i kind from len next h reads 0 nothingYet q) ∙ fate-lex (drop next text) 0 0 _ nothingYet 0 next
         go (no q) = ap fate (left-token text i kind from len next h reads 0 nothingYet q l) ∙ fate-prepend _ _ ∙ fate-lex (drop next text) _ 0 nothingYet nothingYet 0 next
 
-    pub fated-less : length text - next < length text - i
+    fated-less : length text - next < length text - i
     fated-less = let a = s .on in let b = s .inside in omega arith
 
-    pub fated-bad : (x : LexError) → 9 < kind → x ≡ errorShown text kind from → tokens text ≡ refused (Lex x i)
+    fated-bad : (x : LexError) → 9 < kind → x ≡ errorShown text kind from → tokens text ≡ refused (Lex x i)
     fated-bad x l q =
         is-refused (tokens text) (Lex x i)
         (F .same ∙ ap fate (left-bad text i kind from len next h reads 0 nothingYet l) ∙ ap (λ (y : LexError). some (Lex y i)) (sym q))
@@ -112,11 +133,12 @@ module _ (text : List ℕ) (i : ℕ) (F : Fated text i) where
         is-refused (refused g) f e = ap refused (Option·some-injective g f e)
         is-refused (ok ts) f e = absurd (Option·none-ne-some f e)
 
-  -- past one byte, by its class c
+  -- by the class c of the byte
   module _ (c : ℕ) (h : i < length text) (e : c ≡ classNumber (class (getD text i 0))) where
     at-here : c ≡ classAt (drop i text)
     at-here = e ∙ sym (class-in text i h)
 
+    -- past one byte
     pub fated-byte : c < 8 → Fated text (i + 1)
     fated-byte l = go (decLt c 3)
       where
@@ -124,7 +146,7 @@ module _ (text : List ℕ) (i : ℕ) (F : Fated text i) where
         go (yes p) = fated-more 1 i 1 (i + 1) h (lexeme-text text i c h at-here p) (omega arith)
         go (no p) = fated-more c i 1 (i + 1) h (lexeme-sign text i c h at-here (omega arith) l) (omega arith)
 
-    pub fated-line : c ≡ 9 → Fated text (i + 1)
+    fated-line : c ≡ 9 → Fated text (i + 1)
     unfolding classNumber
     fated-line q =
         let z : suc i ≡ i + 1 = omega arith in
@@ -133,6 +155,37 @@ module _ (text : List ℕ) (i : ℕ) (F : Fated text i) where
           same = F .same ∙ ap (doom i) (rest-at text i h) ∙ doom-line (drop (i + 1) text) (getD text i 0) i (class-is (getD text i 0) Class.lineEnd (sym e ∙ q))
               ∙ ap (λ (k : ℕ). doom k (drop (i + 1) text)) z;
         }
+
+    pub fated-other : 8 ≤ c → (c ≡ 8 → ⊥) → (c ≡ 10 → ⊥) → (c ≡ 11 → ⊥) → Fated text (i + 1)
+    fated-other l f g k = go (ℕ-discrete c 9)
+      where
+        go : Dec (c ≡ 9) → Fated text (i + 1)
+        go (yes q) = fated-line q
+        go (no n) = fated-more 1 i 1 (i + 1) h (lexeme-brace text i c h at-here l f n g k) (omega arith)
+
+    -- past a comment
+    module _ (next : ℕ) (q : c ≡ 11) (d : next ≡ i + 1 + comment (drop (i + 1) text)) where
+      pub fated-comment : Fated text next
+      fated-comment = fated-more 1 i 0 next h (lexeme-comment text i c h at-here next q d) (omega arith)
+
+      pub comment-less : length text - next < length text - i
+      comment-less = fated-less 1 i 0 next h (lexeme-comment text i c h at-here next q d)
+
+    module _ (kind from len next : ℕ) where
+      -- past what a backslash makes
+      pub fated-backslash : c ≡ 8 → Shows text i (afterBackslash (drop (i + 1) text)) kind from len next → Fated text next
+      fated-backslash q s = fated-more kind from len next h (lexeme-backslash text i c h at-here kind from len next q s) (backslash-kind text i kind from len next s)
+
+      -- past what a `$` makes, or the refusal
+      module _ (q : c ≡ 10) (s : Shows text i (afterDollar (getD text i 0) (drop (i + 1) text)) kind from len next) where
+        pub fated-dollar : kind ≤ 9 → Fated text next
+        fated-dollar l = fated-more kind from len next h (lexeme-dollar text i c h at-here kind from len next q s) l
+
+        pub dollar-bad : (x : LexError) → 9 < kind → x ≡ errorShown text kind from → tokens text ≡ refused (Lex x i)
+        dollar-bad x l r = fated-bad kind from len next h (lexeme-dollar text i c h at-here kind from len next q s) x l r
+
+  pub shown-less : {x : Lexeme} (kind from len next : ℕ) → Shows text i x kind from len next → length text - next < length text - i
+  shown-less kind from len next s = let a = s .on in let b = s .inside in omega arith
 
   pub fated-end : length text ≤ i → Accepted text
   unfolding lex

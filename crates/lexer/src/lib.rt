@@ -13,7 +13,9 @@ ghost use Rattle.lexer.specs.Lexes.{Room, Holds, Lexes, errorOf};
 ghost use Rattle.lexer.specs.Pieces.{errorShown};
 ghost use Rattle.lexer.specs.Inner.{Judges, Fillable, flushed, flushedCount, FlushRoom, made, PutRoom};
 use lexeme::Piece;
-use lexeme::lexeme_at;
+use lexeme::backslash_at;
+use lexeme::comment_end;
+use lexeme::dollar_at;
 use lexeme::piece_at;
 use scan::class::ByteClass;
 use scan::class::CLASS;
@@ -66,10 +68,8 @@ fn find_refusal(table: &[u8; 256], text: &[u8]) -> Verdict
         let c = class_in(table, text[i]);
         if c < ByteClass::BACKSLASH {
             i += 1;
-        } else if c == ByteClass::LINE_END {
-            i += 1;
-        } else {
-            let p = lexeme_at(table, text, i);
+        } else if c == ByteClass::DOLLAR {
+            let p = dollar_at(table, text, i);
             let kind = p.kind;
             if TokenKind::NEW_LINE < kind {
                 let from = p.from;
@@ -77,6 +77,13 @@ fn find_refusal(table: &[u8; 256], text: &[u8]) -> Verdict
                 return Verdict::Bad(e, i);
             }
             i = p.next;
+        } else if c == ByteClass::HASH {
+            i = comment_end(table, text, i + 1);
+        } else if c == ByteClass::BACKSLASH {
+            let p = backslash_at(table, text, i);
+            i = p.next;
+        } else {
+            i += 1;
         }
     }
     Verdict::Fine

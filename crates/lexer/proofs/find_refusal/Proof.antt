@@ -3,7 +3,7 @@ use borrow.Author.Needs.{needs}
 use native.Mathlib.Omega.{arith}
 use lib.ListN.{length}
 use Prim.Native.Nat.{_-_}
-use Rattle.lexer.proofs.Fates.{Fated, fated-start, fated-byte, fated-line, fated-more, fated-less, fated-bad, fated-end}
+use Rattle.lexer.proofs.Fates.{Fated, fated-start, fated-byte, fated-dollar, dollar-bad, fated-comment, comment-less, fated-backslash, fated-other, shown-less, fated-end}
 use Rattle.lexer.proofs.find_refusal.Statement.{statement}
 use Rattle.lexer.proofs.find_refusal.Tie as tie
 
@@ -31,29 +31,50 @@ loop-less c = omega arith
 loop-again : tie.Need-loop-again Inv-loop μ-loop
 loop-again c = search fated-byte
 
-add-i-2 : tie.Need-add-i-2 Inv-loop μ-loop
-add-i-2 c = search needs
-
-loop-less-2 : tie.Need-loop-less-2 Inv-loop μ-loop
-loop-less-2 c = omega arith
-
-loop-again-2 : tie.Need-loop-again-2 Inv-loop μ-loop
-loop-again-2 c = search fated-line
-
-lexeme-at-requires : tie.Need-lexeme-at-requires Inv-loop μ-loop
-lexeme-at-requires c κs = search needs
+dollar-at-requires : tie.Need-dollar-at-requires Inv-loop μ-loop
+dollar-at-requires c κs = search needs
 
 error-at-requires : tie.Need-error-at-requires Inv-loop μ-loop
 error-at-requires c κs = search needs
 
 returns : tie.Need-returns Inv-loop μ-loop
-returns c = search fated-bad
+returns c = search dollar-bad
+
+loop-less-2 : tie.Need-loop-less-2 Inv-loop μ-loop
+loop-less-2 c = search shown-less
+
+loop-again-2 : tie.Need-loop-again-2 Inv-loop μ-loop
+loop-again-2 c = search fated-dollar
+
+add-comment-end : tie.Need-add-comment-end Inv-loop μ-loop
+add-comment-end c = search needs
+
+comment-end-requires : tie.Need-comment-end-requires Inv-loop μ-loop
+comment-end-requires c κs = search needs
 
 loop-less-3 : tie.Need-loop-less-3 Inv-loop μ-loop
-loop-less-3 c = search fated-less
+loop-less-3 c = search comment-less
 
 loop-again-3 : tie.Need-loop-again-3 Inv-loop μ-loop
-loop-again-3 c = search fated-more
+loop-again-3 c = search fated-comment
+
+backslash-at-requires : tie.Need-backslash-at-requires Inv-loop μ-loop
+backslash-at-requires c κs = search needs
+
+loop-less-4 : tie.Need-loop-less-4 Inv-loop μ-loop
+loop-less-4 c = search shown-less
+
+loop-again-4 : tie.Need-loop-again-4 Inv-loop μ-loop
+loop-again-4 c = search fated-backslash
+
+add-i-2 : tie.Need-add-i-2 Inv-loop μ-loop
+add-i-2 c = search needs
+
+loop-less-5 : tie.Need-loop-less-5 Inv-loop μ-loop
+loop-less-5 c = omega arith
+
+loop-again-5 : tie.Need-loop-again-5 Inv-loop μ-loop
+loop-again-5 c = search fated-other
 
 returns-2 : tie.Need-returns-2 Inv-loop μ-loop
 returns-2 c = search fated-end
@@ -70,12 +91,19 @@ find-refusal-spec =
     add-i
     loop-less
     loop-again
-    add-i-2
-    loop-less-2
-    loop-again-2
-    lexeme-at-requires
+    dollar-at-requires
     error-at-requires
     returns
+    loop-less-2
+    loop-again-2
+    add-comment-end
+    comment-end-requires
     loop-less-3
     loop-again-3
+    backslash-at-requires
+    loop-less-4
+    loop-again-4
+    add-i-2
+    loop-less-5
+    loop-again-5
     returns-2)
