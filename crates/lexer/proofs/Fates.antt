@@ -18,7 +18,7 @@ use Rattle.scan.specs.Classes.{classNumber, classAt}
 use Rattle.scan.proofs.Classes.{class-is, class-in, tests}
 use Rattle.scan.proofs.Lists.{rest-at}
 use Rattle.lexer.specs.Pieces.{lexemeAt, errorShown, shown, Shows, Reads}
-use Rattle.lexer.specs.Inner.{Accepted}
+use Rattle.lexer.specs.Inner.{Accepted, Quiet}
 use Rattle.lexer.proofs.Lexemes.{lexeme-text, lexeme-sign, lexeme-brace, lexeme-comment, lexeme-backslash, lexeme-dollar, reads-one}
 use Rattle.lexer.proofs.Lefts.{left-chars, left-token, left-bad}
 
@@ -139,7 +139,7 @@ module _ (text : List ℕ) (i : ℕ) (F : Fated text i) where
     at-here = e ∙ sym (class-in text i h)
 
     -- past one byte
-    pub fated-byte : c < 8 → Fated text (i + 1)
+    fated-byte : c < 8 → Fated text (i + 1)
     fated-byte l = go (decLt c 3)
       where
         go : Dec (c < 3) → Fated text (i + 1)
@@ -156,12 +156,13 @@ module _ (text : List ℕ) (i : ℕ) (F : Fated text i) where
               ∙ ap (λ (k : ℕ). doom k (drop (i + 1) text)) z;
         }
 
-    pub fated-other : 8 ≤ c → (c ≡ 8 → ⊥) → (c ≡ 10 → ⊥) → (c ≡ 11 → ⊥) → Fated text (i + 1)
-    fated-other l f g k = go (ℕ-discrete c 9)
+    pub fated-other : (c ≡ 10 → ⊥) → (c ≡ 11 → ⊥) → (c ≡ 8 → ⊥) → Fated text (i + 1)
+    fated-other f g k = go (decLt c 8) (ℕ-discrete c 9)
       where
-        go : Dec (c ≡ 9) → Fated text (i + 1)
-        go (yes q) = fated-line q
-        go (no n) = fated-more 1 i 1 (i + 1) h (lexeme-brace text i c h at-here l f n g k) (omega arith)
+        go : Dec (c < 8) → Dec (c ≡ 9) → Fated text (i + 1)
+        go (yes l) q = fated-byte l
+        go (no l) (yes q) = fated-line q
+        go (no l) (no n) = fated-more 1 i 1 (i + 1) h (lexeme-brace text i c h at-here (omega arith) k n f g) (omega arith)
 
     -- past a comment
     module _ (next : ℕ) (q : c ≡ 11) (d : next ≡ i + 1 + comment (drop (i + 1) text)) where
@@ -194,3 +195,25 @@ module _ (text : List ℕ) (i : ℕ) (F : Fated text i) where
       go : (r : Result (List Token)) → tokens text ≡ r → fate r ≡ none → Accepted text
       go (refused f) q e = absurd (Option·none-ne-some f (sym e))
       go (ok ts) q e = record { ts = ts; is-tokens = q }
+
+-- past bytes that are text or tokens by themselves
+fated-run : (text : List ℕ) (i r : ℕ) → Fated text i → i + r ≤ length text → ((k : ℕ) → k < r → classNumber (class (getD text (i + k) 0)) < 8) → Fated text (i + r)
+fated-run text i zero F h q = let z : i ≡ i + 0 = omega arith in rw (sym z) F
+fated-run text i (suc r) F h q =
+    let z : i + r + 1 ≡ i + suc r = omega arith in
+    let G : Fated text (i + r) = fated-run text i r F (omega arith) (λ k l. q k (omega arith)) in
+    rw (sym z) (fated-byte text (i + r) G (classNumber (class (getD text (i + r) 0))) (omega arith) refl (q r (omega arith)))
+
+module _ (text : List ℕ) (i r : ℕ) (Q : Quiet text i r) where
+  quiet-at : (k : ℕ) → k < r → classNumber (class (getD text (i + k) 0)) < 8
+  quiet-at zero l = let z : i + 0 ≡ i = omega arith in rw z (Q .first l)
+  quiet-at (suc zero) l = Q .second l
+  quiet-at (suc (suc zero)) l = Q .third l
+  quiet-at (suc (suc (suc zero))) l = Q .fourth l
+  quiet-at (suc (suc (suc (suc k)))) l = let m = Q .most in absurd (omega arith)
+
+  pub fated-quiet : Fated text i → Fated text (i + r)
+  fated-quiet F = fated-run text i r F (Q .inside) quiet-at
+
+  pub quiet-less : i < length text → 0 < r → length text - (i + r) < length text - i
+  quiet-less h l = let m = Q .inside in omega arith

@@ -2,7 +2,7 @@
 pub mod lexeme;
 
 ghost use mathlib.Core.Path.{_≡_};
-ghost use Prim.Native.Nat.{_+_, _*_};
+ghost use Prim.Native.Nat.{_+_, _*_, _<_};
 ghost use lib.ListN.{length};
 ghost use lib.Dec.{eqb};
 ghost use Rattle.rules.specs.Bytes.{pick};
@@ -11,7 +11,7 @@ ghost use Rattle.scan.specs.Stores.{puts};
 ghost use Rattle.tokens.specs.Entries.{entry, poolText};
 ghost use Rattle.lexer.specs.Lexes.{Room, Holds, Lexes, errorOf};
 ghost use Rattle.lexer.specs.Pieces.{errorShown};
-ghost use Rattle.lexer.specs.Inner.{Judges, Fillable, flushed, flushedCount, FlushRoom, made, PutRoom};
+ghost use Rattle.lexer.specs.Inner.{Quiet, Judges, Fillable, flushed, flushedCount, FlushRoom, made, PutRoom};
 use lexeme::Piece;
 use lexeme::backslash_at;
 use lexeme::comment_end;
@@ -58,6 +58,29 @@ fn error_at(text: &[u8], kind: u32, from: usize) -> LexError
     LexError::InvalidVariableChar(c)
 }
 
+// How many of the next four bytes can't be part of a refusal or hide one, from place i on; 0 where there are fewer than four.
+fn quiet_bytes(table: &[u8; 256], text: &[u8], i: usize) -> usize
+    requires { ⌜ ClassTable (now table) × (i < length (now text)) ⌝ }
+    ensures { λ r. ⌜ Quiet (now (text .entry)) i r ⌝ }
+{
+    if text.len() - i < 4 {
+        return 0;
+    }
+    if ByteClass::BACKSLASH <= class_in(table, text[i]) {
+        return 0;
+    }
+    if ByteClass::BACKSLASH <= class_in(table, text[i + 1]) {
+        return 1;
+    }
+    if ByteClass::BACKSLASH <= class_in(table, text[i + 2]) {
+        return 2;
+    }
+    if ByteClass::BACKSLASH <= class_in(table, text[i + 3]) {
+        return 3;
+    }
+    4
+}
+
 // The first pass. Only `$` can be refused, and only `#` and a backslash can hide one: all other bytes are passed one by one.
 fn find_refusal(table: &[u8; 256], text: &[u8]) -> Verdict
     requires { ⌜ ClassTable (now table) ⌝ }
@@ -65,9 +88,10 @@ fn find_refusal(table: &[u8; 256], text: &[u8]) -> Verdict
 {
     let mut i = 0;
     while i < text.len() {
+        let quiet = quiet_bytes(table, text, i);
         let c = class_in(table, text[i]);
-        if c < ByteClass::BACKSLASH {
-            i += 1;
+        if 0 < quiet {
+            i += quiet;
         } else if c == ByteClass::DOLLAR {
             let p = dollar_at(table, text, i);
             let kind = p.kind;

@@ -3,7 +3,7 @@ use borrow.Author.Needs.{needs}
 use native.Mathlib.Omega.{arith}
 use lib.ListN.{length}
 use Prim.Native.Nat.{_-_}
-use Rattle.lexer.proofs.Fates.{Fated, fated-start, fated-byte, fated-dollar, dollar-bad, fated-comment, comment-less, fated-backslash, fated-other, shown-less, fated-end}
+use Rattle.lexer.proofs.Fates.{Fated, fated-start, fated-quiet, quiet-less, fated-dollar, dollar-bad, fated-comment, comment-less, fated-backslash, fated-other, shown-less, fated-end}
 use Rattle.lexer.proofs.find_refusal.Statement.{statement}
 use Rattle.lexer.proofs.find_refusal.Tie as tie
 
@@ -16,6 +16,9 @@ abbrev μ-loop : tie.MeasureT-loop
 loop-holds : tie.Need-loop-holds Inv-loop μ-loop
 loop-holds c = search fated-start
 
+quiet-bytes-requires : tie.Need-quiet-bytes-requires Inv-loop μ-loop
+quiet-bytes-requires c κs = search needs
+
 shared-slice-read-class-in : tie.Need-shared-slice-read-class-in Inv-loop μ-loop
 shared-slice-read-class-in c = search needs
 
@@ -23,13 +26,13 @@ class-in-requires : tie.Need-class-in-requires Inv-loop μ-loop
 class-in-requires c κs = search needs
 
 add-i : tie.Need-add-i Inv-loop μ-loop
-add-i c = search needs
+add-i c = omega arith
 
 loop-less : tie.Need-loop-less Inv-loop μ-loop
-loop-less c = omega arith
+loop-less c = search quiet-less
 
 loop-again : tie.Need-loop-again Inv-loop μ-loop
-loop-again c = search fated-byte
+loop-again c = search fated-quiet
 
 dollar-at-requires : tie.Need-dollar-at-requires Inv-loop μ-loop
 dollar-at-requires c κs = search needs
@@ -86,6 +89,7 @@ find-refusal-spec =
     Inv-loop
     μ-loop
     loop-holds
+    quiet-bytes-requires
     shared-slice-read-class-in
     class-in-requires
     add-i
