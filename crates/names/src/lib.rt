@@ -90,10 +90,21 @@ pub fn rank(ws: &[u32], pool: &[u8], n: usize, count: usize, v: usize, key: &[u8
     requires { ⌜ Searchable n count v (now ws) (now pool) ⌝ }
     ensures { λ r. ⌜ r ≡ rankOf (now (key .entry)) (variablesIn n count v (now (ws .entry)) (now (pool .entry))) ⌝ }
 {
-    let p = place_for(ws, pool, n, count, v, key);
-    if p < v {
-        if is_same(ws, pool, n, count, v, p, key) {
-            return p;
+    let mut lo = 0;
+    let mut hi = v;
+    while lo < hi {
+        let mid = lo + (hi - lo) / 2;
+        let o = order_at(ws, pool, n, count, mid, key);
+        match o {
+            Order::Less => {
+                lo = mid + 1;
+            }
+            Order::Equal => {
+                return mid;
+            }
+            Order::Greater => {
+                hi = mid;
+            }
         }
     }
     v
