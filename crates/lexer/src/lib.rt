@@ -2,8 +2,8 @@
 pub mod lexeme;
 
 ghost use mathlib.Core.Path.{_≡_};
-ghost use Prim.Native.Nat.{_+_, _*_, _<_};
-ghost use lib.ListN.{length};
+ghost use Prim.Native.Nat.{_+_, _*_, _≤_, _<_};
+ghost use lib.ListN.{length, take, drop};
 ghost use lib.Dec.{eqb};
 ghost use Rattle.rules.specs.Bytes.{pick};
 ghost use Rattle.scan.specs.Classes.{ClassTable};
@@ -20,7 +20,7 @@ use lexeme::piece_at;
 use scan::class::ByteClass;
 use scan::class::CLASS;
 use scan::class::class_in;
-use scan::store::copy_part;
+use scan::store::copy;
 use scan::store::put4;
 use tokens::TokenKind;
 use utf8::code_point_at;
@@ -139,6 +139,15 @@ fn flush_text(ws: &mut [u32], count: usize, start: usize, used: usize, source: u
     count
 }
 
+// The `len` bytes of the text from place `from` on go to the pool from place `used` on.
+fn keep_text(text: &[u8], from: usize, len: usize, pool: &mut [u8], used: usize)
+    requires { ⌜ (from + len ≤ length (now text)) × (used + len ≤ length (now pool)) ⌝ }
+    ensures { λ _. ⌜ now (pool .exit) ≡ puts (now (pool .entry)) used (take len (drop from (now (text .entry)))) ⌝ }
+{
+    let end = from + len;
+    copy(&text[from..end], pool, used);
+}
+
 // A token that isn't Text, at place i. Returns the pool's end.
 fn put_token(
     text: &[u8],
@@ -158,7 +167,7 @@ fn put_token(
 {
     if kind == TokenKind::VARIABLE {
         put4(ws, 4 * count, kind, used as u32, len as u32, i as u32);
-        copy_part(text, from, len, pool, used);
+        keep_text(text, from, len, pool, used);
         return used + len;
     }
     let b = text[i] as u32;
@@ -189,7 +198,7 @@ fn fill(table: &[u8; 256], text: &[u8], ws: &mut [u32], pool: &mut [u8]) -> Fill
         let len = p.len;
         if kind == TokenKind::TEXT {
             source = first_source(start, used, source, i);
-            copy_part(text, from, len, pool, used);
+            keep_text(text, from, len, pool, used);
             used = used + len;
         } else {
             count = flush_text(ws, count, start, used, source);
