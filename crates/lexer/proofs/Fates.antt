@@ -8,8 +8,8 @@ use native.Mathlib.Omega.{arith}
 use native.Mathlib.Decide.{ℕ-discrete, decLt}
 use lib.ListN.{length, take, drop, getD, drop-of-length-le}
 use lib.Dec.{eqb}
-use borrow.Author.Tests.{eqb-true, ne-eqb, lt-leb}
-use Rattle.rules.specs.Bytes.{pick, is}
+use borrow.Author.Tests.{eqb-true, ne-eqb, lt-ltb, le-ltb, lt-leb}
+use Rattle.rules.specs.Bytes.{pick, is, run}
 use Rattle.rules.specs.Tokens.{Token, Backslash}
 use Rattle.rules.specs.Numbers.{LexError, Refusal, Lex, Result, refused, ok}
 use Rattle.rules.specs.Lexing.{Class, Lexeme, chars, reference, mark, bad, Gathered, nothingYet, gather, isLineEnd, class, second, comment, afterBackslash, afterDollar, lexeme, flush, prepend, lex, tokens}
@@ -17,9 +17,9 @@ use Rattle.rules.proofs.LexingLaws.{lex-chars, lex-reference, lex-mark, lex-bad
 use Rattle.scan.specs.Classes.{classNumber, classAt}
 use Rattle.scan.proofs.Classes.{class-is, class-in, tests}
 use Rattle.scan.proofs.Lists.{rest-at}
-use Rattle.lexer.specs.Pieces.{lexemeAt, errorShown, shown, Shows, Reads}
-use Rattle.lexer.specs.Inner.{Accepted, Quiet}
-use Rattle.lexer.proofs.Lexemes.{lexeme-text, lexeme-sign, lexeme-brace, lexeme-comment, lexeme-backslash, lexeme-dollar, reads-one}
+use Rattle.lexer.specs.Pieces.{lexemeAt, errorShown, shown, Shows, isBelow, Reads}
+use Rattle.lexer.specs.Inner.{Accepted}
+use Rattle.lexer.proofs.Lexemes.{run-on, run-off, run-end, lexeme-text, lexeme-sign, lexeme-brace, lexeme-comment, lexeme-backslash, lexeme-dollar, reads-one}
 use Rattle.lexer.proofs.Lefts.{left-chars, left-token, left-bad}
 
 -- the refusal, where there is one
@@ -196,24 +196,26 @@ module _ (text : List ℕ) (i : ℕ) (F : Fated text i) where
       go (refused f) q e = absurd (Option·none-ne-some f (sym e))
       go (ok ts) q e = record { ts = ts; is-tokens = q }
 
--- past bytes that are text or tokens by themselves
-fated-run : (text : List ℕ) (i r : ℕ) → Fated text i → i + r ≤ length text → ((k : ℕ) → k < r → classNumber (class (getD text (i + k) 0)) < 8) → Fated text (i + r)
-fated-run text i zero F h q = let z : i ≡ i + 0 = omega arith in rw (sym z) F
-fated-run text i (suc r) F h q =
-    let z : i + r + 1 ≡ i + suc r = omega arith in
-    let G : Fated text (i + r) = fated-run text i r F (omega arith) (λ k l. q k (omega arith)) in
-    rw (sym z) (fated-byte text (i + r) G (classNumber (class (getD text (i + r) 0))) (omega arith) refl (q r (omega arith)))
+-- past the bytes that are text or tokens by themselves
+fated-run : (text : List ℕ) (r i : ℕ) → Fated text i → run (isBelow 8) (drop i text) ≡ r → Fated text (i + r)
+unfolding isBelow
+fated-run text zero i F e = let z : i ≡ i + 0 = omega arith in rw (sym z) F
+fated-run text (suc r) i F e = go (decLt i (length text)) (decLt k 8) (λ G d. fated-run text r (i + 1) G d)
+  where
+    k : ℕ
+    k = classNumber (class (getD text i 0))
 
-module _ (text : List ℕ) (i r : ℕ) (Q : Quiet text i r) where
-  quiet-at : (k : ℕ) → k < r → classNumber (class (getD text (i + k) 0)) < 8
-  quiet-at zero l = let z : i + 0 ≡ i = omega arith in rw z (Q .first l)
-  quiet-at (suc zero) l = Q .second l
-  quiet-at (suc (suc zero)) l = Q .third l
-  quiet-at (suc (suc (suc zero))) l = Q .fourth l
-  quiet-at (suc (suc (suc (suc k)))) l = let m = Q .most in absurd (omega arith)
+    go : Dec (i < length text) → Dec (k < 8) → (Fated text (i + 1) → run (isBelow 8) (drop (i + 1) text) ≡ r → Fated text (i + 1 + r)) → Fated text (i + suc r)
+    go (no h) q ih = let z = run-end (isBelow 8) text i (omega arith) in absurd (omega arith)
+    go (yes h) (no q) ih = let z = run-off (isBelow 8) text i h (le-ltb k 8 (omega arith)) in absurd (omega arith)
+    go (yes h) (yes q) ih =
+        let n = run-on (isBelow 8) text i h (lt-ltb k 8 q) in
+        let z : i + 1 + r ≡ i + suc r = omega arith in
+        rw (sym z) (ih (fated-byte text i F k h refl q) (omega arith))
 
-  pub fated-quiet : Fated text i → Fated text (i + r)
-  fated-quiet F = fated-run text i r F (Q .inside) quiet-at
+module _ (text : List ℕ) (i end : ℕ) (F : Fated text i) (e : end ≡ i + run (isBelow 8) (drop i text)) where
+  pub fated-quiet : Fated text end
+  fated-quiet = rw e (fated-run text (run (isBelow 8) (drop i text)) i F refl)
 
-  pub quiet-less : i < length text → 0 < r → length text - (i + r) < length text - i
-  quiet-less h l = let m = Q .inside in omega arith
+  pub quiet-less : i < end → length text - end < length text - i
+  quiet-less l = let m = fated-quiet .here in omega arith

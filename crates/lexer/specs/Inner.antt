@@ -1,5 +1,5 @@
 -- What the contracts of the two passes cite. No public contract rests on it. Assumes nothing.
-use Prim.Native.Nat.{ℕ, _+_, _-_, _*_, _≤_, _<_}
+use Prim.Native.Nat.{ℕ, _+_, _-_, _*_, _≤_}
 use mathlib.Core.Path.{_≡_}
 use mathlib.Core.List.{List, [], _∷_}
 use lib.ListN.{length, take, drop, getD}
@@ -7,8 +7,7 @@ use lib.Dec.{eqb, ltb}
 use Rattle.rules.specs.Bytes.{pick}
 use Rattle.rules.specs.Tokens.{Token, token, Text, Variable}
 use Rattle.rules.specs.Numbers.{ok, refused, Lex}
-use Rattle.rules.specs.Lexing.{class, tokens}
-use Rattle.scan.specs.Classes.{classNumber}
+use Rattle.rules.specs.Lexing.{tokens}
 use Rattle.lexer.specs.Lexes.{Room, errorOf}
 use Rattle.lexer.specs.declared.Verdict.{Verdict}
 use Rattle.lexer.specs.declared.Verdict.the-variants.{Fine, Bad}
@@ -17,15 +16,6 @@ use Rattle.lexer.specs.declared.Verdict.the-variants.{Fine, Bad}
 pub record Accepted (text : List ℕ) : Type 0 where
   pub ts : List Token
   pub is-tokens : tokens text ≡ ok ts
-
--- the r bytes from place i on, at most four, are text or tokens by themselves
-pub record Quiet (text : List ℕ) (i r : ℕ) : Type 0 where
-  pub inside : i + r ≤ length text
-  pub most : r ≤ 4
-  pub first : 0 < r → classNumber (class (getD text i 0)) < 8
-  pub second : 1 < r → classNumber (class (getD text (i + 1) 0)) < 8
-  pub third : 2 < r → classNumber (class (getD text (i + 2) 0)) < 8
-  pub fourth : 3 < r → classNumber (class (getD text (i + 3) 0)) < 8
 
 -- the pass that looks for a refusal, by its answer
 abbrev pub Judges : List ℕ → Verdict → Type 0

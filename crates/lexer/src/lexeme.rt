@@ -5,7 +5,7 @@ ghost use lib.ListN.{length, drop, getD};
 ghost use Rattle.rules.specs.Bytes.{run};
 ghost use Rattle.rules.specs.Lexing.{isIdentifier, comment, second, afterBackslash, afterBrace, afterDollar};
 ghost use Rattle.scan.specs.Classes.{ClassTable};
-ghost use Rattle.lexer.specs.Pieces.{Shows, lexemeAt, isPlain, Reads};
+ghost use Rattle.lexer.specs.Pieces.{Shows, lexemeAt, isBelow, Reads};
 use scan::class::ByteClass;
 use scan::class::CLASS;
 use scan::class::class_by;
@@ -158,13 +158,13 @@ pub fn lexeme_at(table: &[u8; 256], text: &[u8], i: usize) -> Piece
     Piece::new(TokenKind::TEXT, i, 1, i + 1)
 }
 
-// Past the bytes that are text by themselves.
-fn text_end(table: &[u8; 256], text: &[u8], i: usize) -> usize
-    requires { ⌜ ClassTable (now table) × (i ≤ length (now text)) ⌝ }
-    ensures { λ r. ⌜ r ≡ i + run isPlain (drop i (now (text .entry))) ⌝ }
+// Past the bytes whose class is below `bound`.
+pub fn classes_end(table: &[u8; 256], text: &[u8], i: usize, bound: u8) -> usize
+    requires { ⌜ ClassTable (now table) × (i ≤ length (now text)) × (bound ≤ 15) ⌝ }
+    ensures { λ r. ⌜ r ≡ i + run (isBelow bound) (drop i (now (text .entry))) ⌝ }
 {
     let mut j = i;
-    while class_by(table, text, j) < ByteClass::BLANK {
+    while class_by(table, text, j) < bound {
         j += 1;
     }
     j
@@ -175,7 +175,7 @@ pub fn piece_at(table: &[u8; 256], text: &[u8], i: usize) -> Piece
     requires { ⌜ ClassTable (now table) × (i < length (now text)) ⌝ }
     ensures { λ r. ⌜ Reads (now (text .entry)) i (r .kind) (r .from) (r .len) (r .next) ⌝ }
 {
-    let end = text_end(table, text, i);
+    let end = classes_end(table, text, i, ByteClass::BLANK);
     if i < end {
         return Piece::new(TokenKind::TEXT, i, end - i, end);
     }

@@ -11,9 +11,10 @@ ghost use Rattle.scan.specs.Stores.{puts};
 ghost use Rattle.tokens.specs.Entries.{entry, poolText};
 ghost use Rattle.lexer.specs.Lexes.{Room, Holds, Lexes, errorOf};
 ghost use Rattle.lexer.specs.Pieces.{errorShown};
-ghost use Rattle.lexer.specs.Inner.{Quiet, Judges, Fillable, flushed, flushedCount, FlushRoom, made, PutRoom};
+ghost use Rattle.lexer.specs.Inner.{Judges, Fillable, flushed, flushedCount, FlushRoom, made, PutRoom};
 use lexeme::Piece;
 use lexeme::backslash_at;
+use lexeme::classes_end;
 use lexeme::comment_end;
 use lexeme::dollar_at;
 use lexeme::piece_at;
@@ -58,40 +59,17 @@ fn error_at(text: &[u8], kind: u32, from: usize) -> LexError
     LexError::InvalidVariableChar(c)
 }
 
-// How many of the next four bytes can't be part of a refusal or hide one, from place i on; 0 where there are fewer than four.
-fn quiet_bytes(table: &[u8; 256], text: &[u8], i: usize) -> usize
-    requires { ⌜ ClassTable (now table) × (i < length (now text)) ⌝ }
-    ensures { λ r. ⌜ Quiet (now (text .entry)) i r ⌝ }
-{
-    if text.len() - i < 4 {
-        return 0;
-    }
-    if ByteClass::BACKSLASH <= class_in(table, text[i]) {
-        return 0;
-    }
-    if ByteClass::BACKSLASH <= class_in(table, text[i + 1]) {
-        return 1;
-    }
-    if ByteClass::BACKSLASH <= class_in(table, text[i + 2]) {
-        return 2;
-    }
-    if ByteClass::BACKSLASH <= class_in(table, text[i + 3]) {
-        return 3;
-    }
-    4
-}
-
-// The first pass. Only `$` can be refused, and only `#` and a backslash can hide one: all other bytes are passed one by one.
+// The first pass. Only `$` can be refused, and only `#` and a backslash can hide one: the other bytes are passed.
 fn find_refusal(table: &[u8; 256], text: &[u8]) -> Verdict
     requires { ⌜ ClassTable (now table) ⌝ }
     ensures { λ r. ⌜ Judges (now (text .entry)) r ⌝ }
 {
     let mut i = 0;
     while i < text.len() {
-        let quiet = quiet_bytes(table, text, i);
+        let end = classes_end(table, text, i, ByteClass::BACKSLASH);
         let c = class_in(table, text[i]);
-        if 0 < quiet {
-            i += quiet;
+        if i < end {
+            i = end;
         } else if c == ByteClass::DOLLAR {
             let p = dollar_at(table, text, i);
             let kind = p.kind;

@@ -16,17 +16,14 @@ abbrev μ-loop : tie.MeasureT-loop
 loop-holds : tie.Need-loop-holds Inv-loop μ-loop
 loop-holds c = search fated-start
 
-quiet-bytes-requires : tie.Need-quiet-bytes-requires Inv-loop μ-loop
-quiet-bytes-requires c κs = search needs
+classes-end-requires : tie.Need-classes-end-requires Inv-loop μ-loop
+classes-end-requires c κs = search needs
 
 shared-slice-read-class-in : tie.Need-shared-slice-read-class-in Inv-loop μ-loop
 shared-slice-read-class-in c = search needs
 
 class-in-requires : tie.Need-class-in-requires Inv-loop μ-loop
 class-in-requires c κs = search needs
-
-add-i : tie.Need-add-i Inv-loop μ-loop
-add-i c = omega arith
 
 loop-less : tie.Need-loop-less Inv-loop μ-loop
 loop-less c = search quiet-less
@@ -70,8 +67,8 @@ loop-less-4 c = search shown-less
 loop-again-4 : tie.Need-loop-again-4 Inv-loop μ-loop
 loop-again-4 c = search fated-backslash
 
-add-i-2 : tie.Need-add-i-2 Inv-loop μ-loop
-add-i-2 c = search needs
+add-i : tie.Need-add-i Inv-loop μ-loop
+add-i c = search needs
 
 loop-less-5 : tie.Need-loop-less-5 Inv-loop μ-loop
 loop-less-5 c = omega arith
@@ -89,10 +86,9 @@ find-refusal-spec =
     Inv-loop
     μ-loop
     loop-holds
-    quiet-bytes-requires
+    classes-end-requires
     shared-slice-read-class-in
     class-in-requires
-    add-i
     loop-less
     loop-again
     dollar-at-requires
@@ -107,7 +103,7 @@ find-refusal-spec =
     backslash-at-requires
     loop-less-4
     loop-again-4
-    add-i-2
+    add-i
     loop-less-5
     loop-again-5
     returns-2)

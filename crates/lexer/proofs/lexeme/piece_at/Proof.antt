@@ -4,8 +4,8 @@ use borrow.Author.Needs.{needs}
 use Rattle.lexer.proofs.lexeme.piece_at.Statement.{statement}
 use Rattle.lexer.proofs.lexeme.piece_at.Tie as tie
 
-text-end-requires : tie.Need-text-end-requires
-text-end-requires c κs = search needs
+classes-end-requires : tie.Need-classes-end-requires
+classes-end-requires c κs = search needs
 
 sub-new : tie.Need-sub-new
 sub-new c = search needs
@@ -26,7 +26,7 @@ pub piece-at-spec : {M : Type 1} → statement M
 piece-at-spec =
     tie.close
     (tie.spec
-    text-end-requires
+    classes-end-requires
     sub-new
     new-requires
     returns
