@@ -1,15 +1,16 @@
 -- What a text is refused with, if it is. It doesn't depend on tokens and gathered Text, and bytes that are no part of a reference may be passed one by one. Assumes nothing.
 use Prim.Native.Nat.{ℕ, zero, suc, _+_, _-_, _≤_, _<_}
 use mathlib.Core.Path.{_≡_, refl, ap, sym, _∙_}
-use mathlib.Core.Bool.{Bool, true, false, not, _&&_}
+use mathlib.Core.Bool.{Bool, true, false, not, _&&_, _||_}
 use mathlib.Core.List.{List, [], _∷_, _++_}
 use mathlib.Core.Option.{Option, none, some, Option·none-ne-some, Option·some-injective}
 use native.Mathlib.Omega.{arith}
 use native.Mathlib.Decide.{ℕ-discrete, decLt}
 use lib.ListN.{length, take, drop, getD, drop-of-length-le}
 use lib.Dec.{eqb}
-use borrow.Author.Tests.{eqb-true, ne-eqb, lt-ltb, le-ltb, lt-leb}
+use borrow.Author.Tests.{eqb-true, eq-eqb, ne-eqb, lt-ltb, le-ltb, lt-leb}
 use Rattle.rules.specs.Bytes.{pick, is, run}
+use Rattle.rules.proofs.BytesLaws.{false-true}
 use Rattle.rules.specs.Tokens.{Token, Backslash}
 use Rattle.rules.specs.Numbers.{LexError, Refusal, Lex, Result, refused, ok}
 use Rattle.rules.specs.Lexing.{Class, Lexeme, chars, reference, mark, bad, Gathered, nothingYet, gather, isLineEnd, class, second, comment, afterBackslash, afterDollar, lexeme, flush, prepend, lex, tokens}
@@ -18,7 +19,7 @@ use Rattle.scan.specs.Classes.{classNumber, classAt}
 use Rattle.scan.proofs.Classes.{class-is, class-in, tests}
 use Rattle.scan.proofs.Lists.{rest-at}
 use Rattle.lexer.specs.Pieces.{lexemeAt, errorShown, shown, Shows, isBelow, Reads}
-use Rattle.lexer.specs.Inner.{Accepted}
+use Rattle.lexer.specs.Inner.{Accepted, hasDollar}
 use Rattle.lexer.proofs.Lexemes.{run-on, run-off, run-end, lexeme-text, lexeme-sign, lexeme-brace, lexeme-comment, lexeme-backslash, lexeme-dollar, reads-one}
 use Rattle.lexer.proofs.Lefts.{left-chars, left-token, left-bad}
 
@@ -98,6 +99,13 @@ backslash-kind text i kind from len next s = go (decLt 9 kind)
     go (yes l) =
         absurd (never-bad (drop (i + 1) text) (errorShown text kind from)
         (s .is-lexeme ∙ rw (ne-eqb kind 1 (λ e. omega arith), ne-eqb kind 2 (λ e. omega arith), lt-leb kind 9 l)))
+
+is-fine : (text : List ℕ) → fate (tokens text) ≡ none → Accepted text
+is-fine text e = go (tokens text) refl e
+  where
+    go : (r : Result (List Token)) → tokens text ≡ r → fate r ≡ none → Accepted text
+    go (refused f) q e = absurd (Option·none-ne-some f (sym e))
+    go (ok ts) q e = record { ts = ts; is-tokens = q }
 
 -- at place i, the refusal of the text is that of the rest
 pub record Fated (text : List ℕ) (i : ℕ) : Type 0 where
@@ -190,11 +198,7 @@ module _ (text : List ℕ) (i : ℕ) (F : Fated text i) where
 
   pub fated-end : length text ≤ i → Accepted text
   unfolding lex
-  fated-end h = go (tokens text) refl (F .same ∙ rw (drop-of-length-le text h))
-    where
-      go : (r : Result (List Token)) → tokens text ≡ r → fate r ≡ none → Accepted text
-      go (refused f) q e = absurd (Option·none-ne-some f (sym e))
-      go (ok ts) q e = record { ts = ts; is-tokens = q }
+  fated-end h = is-fine text (F .same ∙ rw (drop-of-length-le text h))
 
 -- past the bytes that are text or tokens by themselves
 fated-run : (text : List ℕ) (r i : ℕ) → Fated text i → run (isBelow 8) (drop i text) ≡ r → Fated text (i + r)
@@ -219,3 +223,63 @@ module _ (text : List ℕ) (i end : ℕ) (F : Fated text i) (e : end ≡ i + run
 
   pub quiet-less : i < end → length text - end < length text - i
   quiet-less l = let m = fated-quiet .here in omega arith
+
+-- only `$` can be refused
+bad-dollar : (c : Class) (b : ℕ) (bs : List ℕ) (e : LexError) → lexeme c b bs ≡ bad e → c ≡ Class.dollar
+unfolding lexeme
+bad-dollar Class.other b bs e q = let z : _≡_ {A = ℕ} 0 1 = cc in absurd (omega arith)
+bad-dollar Class.identifier b bs e q = let z : _≡_ {A = ℕ} 0 1 = cc in absurd (omega arith)
+bad-dollar Class.blank b bs e q = let z : _≡_ {A = ℕ} 0 1 = cc in absurd (omega arith)
+bad-dollar Class.lineEnd b bs e q = let z : _≡_ {A = ℕ} 0 1 = cc in absurd (omega arith)
+bad-dollar Class.hash b bs e q = let z : _≡_ {A = ℕ} 0 1 = cc in absurd (omega arith)
+bad-dollar Class.dollar b bs e q = refl
+bad-dollar Class.openBrace b bs e q = let z : _≡_ {A = ℕ} 0 1 = cc in absurd (omega arith)
+bad-dollar Class.closeBrace b bs e q = let z : _≡_ {A = ℕ} 0 1 = cc in absurd (omega arith)
+bad-dollar Class.backslash b bs e q = absurd (never-bad bs e q)
+bad-dollar Class.equals b bs e q = let z : _≡_ {A = ℕ} 0 1 = cc in absurd (omega arith)
+bad-dollar Class.colon b bs e q = let z : _≡_ {A = ℕ} 0 1 = cc in absurd (omega arith)
+bad-dollar Class.single b bs e q = let z : _≡_ {A = ℕ} 0 1 = cc in absurd (omega arith)
+bad-dollar Class.double b bs e q = let z : _≡_ {A = ℕ} 0 1 = cc in absurd (omega arith)
+
+found-stays : (bs : List ℕ) → hasDollar true bs ≡ true
+unfolding hasDollar
+found-stays [] = refl
+found-stays (b ∷ bs) = found-stays bs
+
+later : (b : ℕ) (bs : List ℕ) → hasDollar false (b ∷ bs) ≡ false → (eqb b 36 ≡ false) × (hasDollar false bs ≡ false)
+unfolding hasDollar
+later b bs h = go (eqb b 36) refl h
+  where
+    go : (t : Bool) → eqb b 36 ≡ t → hasDollar t bs ≡ false → (eqb b 36 ≡ false) × (hasDollar false bs ≡ false)
+    go true d r = absurd (false-true r (found-stays bs))
+    go false d r = (d, r)
+
+is-dollar : (b : ℕ) → class b ≡ Class.dollar → eqb b 36 ≡ true
+unfolding is
+is-dollar b q = tests Class.dollar b ∙ eq-eqb _ _ (ap classNumber q)
+
+-- without `$` there is no refusal
+calm : (bs : List ℕ) (end : ℕ) (g : Gathered) (skip at : ℕ) → hasDollar false bs ≡ false → fate (lex end g skip at bs) ≡ none
+unfolding lex hasDollar
+calm [] end g skip at h = refl
+calm (b ∷ bs) end g (suc skip) at h = calm bs end g skip (suc at) (later b bs h .1)
+calm (b ∷ bs) end g zero at h = go (lexeme (class b) b bs) refl (λ end′ g′ n. calm bs end′ g′ n (suc at) (later b bs h .1))
+  where
+    go : (x : Lexeme) → lexeme (class b) b bs ≡ x → ((end′ : ℕ) (g′ : Gathered) (n : ℕ) → fate (lex end′ g′ n (suc at) bs) ≡ none) → fate (lex end g 0 at (b ∷ bs)) ≡ none
+    go (chars cs n) q ih = ap fate (lex-chars end g at b bs cs n q) ∙ ih end (gather g cs at) n
+    go (reference name n) q ih = ap fate (lex-reference end g at b bs name n q) ∙ fate-prepend _ _ ∙ ih _ nothingYet n
+    go (mark kind n) q ih = ap fate (lex-mark end g at b bs kind n q) ∙ fate-prepend _ _ ∙ ih _ nothingYet n
+    go (bad e) q ih = absurd (false-true (later b bs h .0) (is-dollar b (bad-dollar (class b) b bs e q)))
+
+pub no-dollar : (text : List ℕ) (r : Bool) → r ≡ hasDollar false text → r ≡ false → Accepted text
+unfolding tokens
+no-dollar text r e q = is-fine text (calm text 0 nothingYet 0 0 (sym e ∙ q))
+
+-- a turn of has_dollar
+pub dollar-turn : (text : List ℕ) (i : ℕ) (found next x : Bool) → i < length text → next ≡ (found || eqb (getD text i 0) 36) → hasDollar found (drop i text) ≡ x → hasDollar next (drop (i + 1) text) ≡ x
+unfolding hasDollar
+dollar-turn text i found next x h q e = rw q (rw (rest-at text i h) at e)
+
+pub dollar-end : (text : List ℕ) (i : ℕ) (found x : Bool) → length text ≤ i → hasDollar found (drop i text) ≡ x → found ≡ x
+unfolding hasDollar
+dollar-end text i found x h e = rw (drop-of-length-le text h) at e

@@ -2,6 +2,7 @@
 pub mod lexeme;
 
 ghost use mathlib.Core.Path.{_≡_};
+ghost use mathlib.Core.Bool.{false, _||_};
 ghost use Prim.Native.Nat.{_+_, _*_, _≤_, _<_};
 ghost use lib.ListN.{length, take, drop};
 ghost use lib.Dec.{eqb};
@@ -11,7 +12,7 @@ ghost use Rattle.scan.specs.Stores.{puts};
 ghost use Rattle.tokens.specs.Entries.{entry, poolText};
 ghost use Rattle.lexer.specs.Lexes.{Room, Holds, Lexes, errorOf};
 ghost use Rattle.lexer.specs.Pieces.{errorShown};
-ghost use Rattle.lexer.specs.Inner.{Judges, Fillable, flushed, flushedCount, FlushRoom, made, PutRoom};
+ghost use Rattle.lexer.specs.Inner.{hasDollar, Judges, Fillable, flushed, flushedCount, FlushRoom, made, PutRoom};
 use lexeme::Piece;
 use lexeme::backslash_at;
 use lexeme::classes_end;
@@ -191,12 +192,42 @@ fn fill(table: &[u8; 256], text: &[u8], ws: &mut [u32], pool: &mut [u8]) -> Fill
     Filled { count, used }
 }
 
+fn either(a: bool, b: bool) -> bool
+    ensures { λ r. ⌜ r ≡ (a || b) ⌝ }
+{
+    if a { true } else { b }
+}
+
+// Whether there is a `$`.
+fn has_dollar(text: &[u8]) -> bool
+    ensures { λ r. ⌜ r ≡ hasDollar false (now (text .entry)) ⌝ }
+{
+    let mut found = false;
+    let mut i = 0;
+    while i < text.len() {
+        found = either(found, text[i] == b'$');
+        i += 1;
+    }
+    found
+}
+
+// The first pass, which only a text with a `$` needs.
+fn judge(table: &[u8; 256], text: &[u8]) -> Verdict
+    requires { ⌜ ClassTable (now table) ⌝ }
+    ensures { λ r. ⌜ Judges (now (text .entry)) r ⌝ }
+{
+    if has_dollar(text) {
+        return find_refusal(table, text);
+    }
+    Verdict::Fine
+}
+
 // Both passes, by a table of the classes of bytes.
 fn lex_by(table: &[u8; 256], text: &[u8], ws: &mut [u32], pool: &mut [u8]) -> Lexed
     requires { ⌜ ClassTable (now table) × Room (now text) (now ws) (now pool) ⌝ }
     ensures { λ r. ⌜ Lexes (now (text .entry)) (now (ws .entry)) (now (ws .exit)) (now (pool .entry)) (now (pool .exit)) r ⌝ }
 {
-    let v = find_refusal(table, text);
+    let v = judge(table, text);
     match v {
         Verdict::Bad(e, at) => Lexed::Refused(e, at),
         Verdict::Fine => {
