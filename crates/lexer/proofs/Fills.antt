@@ -165,6 +165,9 @@ module _ (text ws₀ pool₀ ws pool : List ℕ) (i count start used source : �
     part-length : length (take len (drop from text)) ≡ len
     part-length = length-part text from len (omega arith)
 
+    pub text-fits : from + len ≤ length text
+    text-fits = let a = s .part in let b = s .inside in omega arith
+
     pub pool-fits : used + len ≤ length pool
     pool-fits = omega arith
 

@@ -18,7 +18,7 @@ use Rattle.rules.proofs.LexingLaws.{lexeme-fits, lex-chars, lex-reference, lex-
 use Rattle.scan.specs.Classes.{classNumber}
 use Rattle.scan.proofs.Lists.{rest-at}
 use Rattle.tokens.specs.Entries.{poolText}
-use Rattle.lexer.specs.Pieces.{lexemeAt, errorShown, shown, isPlain, Plain, Reads}
+use Rattle.lexer.specs.Pieces.{lexemeAt, errorShown, shown, isBelow, isPlain, Plain, Reads}
 use Rattle.lexer.proofs.Lexemes.{plain}
 use Rattle.lexer.specs.Inner.{Accepted, made}
 
@@ -46,7 +46,7 @@ gather-on g b cs at next = go (g .text)
     go (c ∷ s) = rw (append-assoc (c ∷ s) (b ∷ []) cs)
 
 plain-lexeme : (b : ℕ) (bs : List ℕ) → isPlain b ≡ true → lexeme (class b) b bs ≡ chars (b ∷ []) 0
-unfolding isPlain
+unfolding isBelow
 plain-lexeme b bs e = let l : classNumber (class b) < 3 = ltb-true (classNumber (class b)) 3 e in plain (class b) b bs (λ p q. omega arith)
 
 -- a run of bytes that are text by themselves is gathered at once
@@ -162,44 +162,10 @@ pub record Left (text : List ℕ) (i : ℕ) : Type 0 where
   pub here : i ≤ length text
   pub rest : tokens text ≡ prepend ts (lex end g 0 i (drop i text))
 
-pub left-start : (text : List ℕ) → Left text 0
-unfolding tokens
-left-start text = record { ts = []; end = 0; g = nothingYet; here = omega arith; rest = sym (prepend-nil (lex 0 nothingYet 0 0 text)) }
-
-module _ (text : List ℕ) (i : ℕ) (L : Left text i) where
-  module _ (kind from len next : ℕ) (h : i < length text) (s : Reads text i kind from len next) where
-    pub left-more : kind ≤ 9 → Left text next
-    left-more l = go (ℕ-discrete kind 1)
-      where
-        t : Token
-        t = made text i kind from len (L .end + length (L .g .text))
-
-        go : Dec (kind ≡ 1) → Left text next
-        go (yes q) =
-            record {
-              ts = L .ts;
-              end = L .end;
-              g = gather (L .g) (take len (drop from text)) i;
-              here = omega arith;
-              rest = L .rest ∙ ap (prepend (L .ts)) (left-chars text i kind from len next h s (L .end) (L .g) q);
-            }
-        go (no q) =
-            record {
-              ts = L .ts ++ (flush (L .end) (L .g) ++ (t ∷ []));
-              end = L .end + length (L .g .text) + length (poolText t);
-              g = nothingYet;
-              here = omega arith;
-              rest = L .rest ∙ ap (prepend (L .ts)) (left-token text i kind from len next h s (L .end) (L .g) q l)
-                  ∙ prepend-prepend (L .ts) (flush (L .end) (L .g) ++ (t ∷ [])) (lex (L .end + length (L .g .text) + length (poolText t)) nothingYet 0 next (drop next text));
-            }
-
-    pub left-refused : 9 < kind → tokens text ≡ refused (Lex (errorShown text kind from) i)
-    unfolding prepend
-    left-refused l = L .rest ∙ ap (prepend (L .ts)) (left-bad text i kind from len next h s (L .end) (L .g) l)
-
-  pub left-end : length text ≤ i → Accepted text
-  unfolding lex prepend
-  left-end h = record { ts = L .ts ++ flush (L .end) (L .g); is-tokens = L .rest ∙ rw (drop-of-length-le text h) }
+module _ (text : List ℕ) (i : ℕ) (L : Left text i) (kind from len next : ℕ) (h : i < length text) (s : Reads text i kind from len next) where
+  pub left-refused : 9 < kind → tokens text ≡ refused (Lex (errorShown text kind from) i)
+  unfolding prepend
+  left-refused l = L .rest ∙ ap (prepend (L .ts)) (left-bad text i kind from len next h s (L .end) (L .g) l)
 
 -- the error of a reference, by the kind of its lexeme
 module _ (text : List ℕ) (kind from : ℕ) where
@@ -210,8 +176,3 @@ module _ (text : List ℕ) (kind from : ℕ) where
   pub error-char : (c : ℕ) → (kind ≡ 10 → ⊥) → c ≡ codePoint (getD text from 0) (drop (from + 1) text) → InvalidVariableChar c ≡ errorShown text kind from
   unfolding errorShown pick
   error-char c n q = rw (ne-eqb kind 10 n, q)
-
--- the answer of the pass that looks for a refusal
-pub found-bad : (text : List ℕ) (i kind from len next : ℕ) (x : LexError) → Left text i → i < length text → Reads text i kind from len next → 9 < kind
-    → x ≡ errorShown text kind from → tokens text ≡ refused (Lex x i)
-found-bad text i kind from len next x L h s l q = left-refused text i L kind from len next h s l ∙ ap (λ (y : LexError). refused (Lex y i)) (sym q)

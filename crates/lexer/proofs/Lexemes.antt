@@ -16,19 +16,19 @@ use Rattle.rules.proofs.LexingLaws.{second-le, run-le}
 use Rattle.scan.specs.Classes.{classNumber, classAt}
 use Rattle.scan.proofs.Classes.{class-is, test, test-true, test-false, class-in, past-end, not-past}
 use Rattle.scan.proofs.Lists.{rest-at}
-use Rattle.lexer.specs.Pieces.{lexemeAt, errorShown, shown, Shows, isPlain, Reads}
+use Rattle.lexer.specs.Pieces.{lexemeAt, errorShown, shown, Shows, isBelow, isPlain, Reads}
 
 -- how far a test holds, from place j on
 module _ (f : ℕ → Bool) (text : List ℕ) (j : ℕ) where
-  run-on : j < length text → f (getD text j 0) ≡ true → run f (drop j text) ≡ suc (run f (drop (j + 1) text))
+  pub run-on : j < length text → f (getD text j 0) ≡ true → run f (drop j text) ≡ suc (run f (drop (j + 1) text))
   unfolding run
   run-on h t = rw (rest-at text j h, t, run)
 
-  run-off : j < length text → f (getD text j 0) ≡ false → run f (drop j text) ≡ 0
+  pub run-off : j < length text → f (getD text j 0) ≡ false → run f (drop j text) ≡ 0
   unfolding run
   run-off h t = rw (rest-at text j h, t, run)
 
-  run-end : length text ≤ j → run f (drop j text) ≡ 0
+  pub run-end : length text ≤ j → run f (drop j text) ≡ 0
   unfolding run
   run-end h = rw (drop-of-length-le text h)
 
@@ -51,27 +51,28 @@ module _ (text : List ℕ) (j r : ℕ) (e : r ≡ classAt (drop j text)) where
 
   -- a scan from place j on; x is where it ends
   module _ (x : ℕ) where
-    pub plain-in : r < 3 → j < length text
-    plain-in l = within (λ p. omega arith)
+    module _ (k : ℕ) where
+      pub below-in : k ≤ 15 → r < k → j < length text
+      below-in m l = within (λ p. omega arith)
 
-    pub plain-more : r < 3 → x ≡ j + run isPlain (drop j text) → x ≡ j + 1 + run isPlain (drop (j + 1) text)
-    unfolding isPlain
-    plain-more l i =
-        let h = plain-in l in
-        let n = number h in
-        let z = run-on isPlain text j h (lt-ltb (classNumber (class (getD text j 0))) 3 (omega arith)) in
-        omega arith
+      pub below-more : k ≤ 15 → r < k → x ≡ j + run (isBelow k) (drop j text) → x ≡ j + 1 + run (isBelow k) (drop (j + 1) text)
+      unfolding isBelow
+      below-more m l i =
+          let h = below-in m l in
+          let n = number h in
+          let z = run-on (isBelow k) text j h (lt-ltb (classNumber (class (getD text j 0))) k (omega arith)) in
+          omega arith
 
-    pub plain-stop : 3 ≤ r → x ≡ j + run isPlain (drop j text) → j ≡ x
-    unfolding isPlain
-    plain-stop l i = go (decLt j (length text))
-      where
-        go : Dec (j < length text) → j ≡ x
-        go (yes h) =
-            let n = number h in
-            let z = run-off isPlain text j h (le-ltb (classNumber (class (getD text j 0))) 3 (omega arith)) in
-            omega arith
-        go (no h) = let z = run-end isPlain text j (omega arith) in omega arith
+      pub below-stop : k ≤ r → x ≡ j + run (isBelow k) (drop j text) → j ≡ x
+      unfolding isBelow
+      below-stop l i = go (decLt j (length text))
+        where
+          go : Dec (j < length text) → j ≡ x
+          go (yes h) =
+              let n = number h in
+              let z = run-off (isBelow k) text j h (le-ltb (classNumber (class (getD text j 0))) k (omega arith)) in
+              omega arith
+          go (no h) = let z = run-end (isBelow k) text j (omega arith) in omega arith
 
     pub name-in : r ≡ 1 → j < length text
     name-in q = within (λ p. omega arith)

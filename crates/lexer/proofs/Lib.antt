@@ -1,5 +1,6 @@
 pub mod Lexemes
 pub mod Lefts
+pub mod Fates
 pub mod Writes
 pub mod Fills
 pub mod Outcomes

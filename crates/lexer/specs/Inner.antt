@@ -1,6 +1,7 @@
 -- What the contracts of the two passes cite. No public contract rests on it. Assumes nothing.
 use Prim.Native.Nat.{ℕ, _+_, _-_, _*_, _≤_}
 use mathlib.Core.Path.{_≡_}
+use mathlib.Core.Bool.{Bool, _||_}
 use mathlib.Core.List.{List, [], _∷_}
 use lib.ListN.{length, take, drop, getD}
 use lib.Dec.{eqb, ltb}
@@ -16,6 +17,11 @@ use Rattle.lexer.specs.declared.Verdict.the-variants.{Fine, Bad}
 pub record Accepted (text : List ℕ) : Type 0 where
   pub ts : List Token
   pub is-tokens : tokens text ≡ ok ts
+
+-- it was found before, or a byte is `$`
+unfoldable pub hasDollar : Bool → List ℕ → Bool
+hasDollar found [] = found
+hasDollar found (b ∷ bs) = hasDollar (found || eqb b 36) bs
 
 -- the pass that looks for a refusal, by its answer
 abbrev pub Judges : List ℕ → Verdict → Type 0

@@ -5,7 +5,7 @@ ghost use lib.ListN.{length, drop, getD};
 ghost use Rattle.rules.specs.Bytes.{run};
 ghost use Rattle.rules.specs.Lexing.{isIdentifier, comment, second, afterBackslash, afterBrace, afterDollar};
 ghost use Rattle.scan.specs.Classes.{ClassTable};
-ghost use Rattle.lexer.specs.Pieces.{Shows, lexemeAt, isPlain, Reads};
+ghost use Rattle.lexer.specs.Pieces.{Shows, lexemeAt, isBelow, Reads};
 use scan::class::ByteClass;
 use scan::class::CLASS;
 use scan::class::class_by;
@@ -20,6 +20,17 @@ pub struct Piece {
 }
 
 impl Piece {
+    pub fn new(kind: u32, from: usize, len: usize, next: usize) -> Piece
+        ensures { λ r. ⌜ r ≡ record { kind = kind; from = from; len = len; next = next } ⌝ }
+    {
+        Piece {
+            kind,
+            from,
+            len,
+            next,
+        }
+    }
+
     // a reference that isn't closed
     pub const NOT_CLOSED: u32 = 10;
 
@@ -40,7 +51,7 @@ fn name_end(table: &[u8; 256], text: &[u8], i: usize) -> usize
 }
 
 // At the next line end, or the end of the text.
-fn comment_end(table: &[u8; 256], text: &[u8], i: usize) -> usize
+pub fn comment_end(table: &[u8; 256], text: &[u8], i: usize) -> usize
     requires { ⌜ ClassTable (now table) × (i ≤ length (now text)) ⌝ }
     ensures { λ r. ⌜ r ≡ i + comment (drop i (now (text .entry))) ⌝ }
 {
@@ -69,34 +80,19 @@ fn maybe_consume_second_newline(table: &[u8; 256], text: &[u8], i: usize) -> usi
 }
 
 // Backslash before `#` is text `#`. Before a line end all vanish and Text goes on. Else it is a token.
-fn backslash_at(table: &[u8; 256], text: &[u8], i: usize) -> Piece
+pub fn backslash_at(table: &[u8; 256], text: &[u8], i: usize) -> Piece
     requires { ⌜ ClassTable (now table) × (i < length (now text)) ⌝ }
     ensures { λ r. ⌜ Shows (now (text .entry)) i (afterBackslash (drop (i + 1) (now (text .entry)))) (r .kind) (r .from) (r .len) (r .next) ⌝ }
 {
     let c = class_by(table, text, i + 1);
     if c == ByteClass::HASH {
-        return Piece {
-            kind: TokenKind::TEXT,
-            from: i + 1,
-            len: 1,
-            next: i + 2,
-        };
+        return Piece::new(TokenKind::TEXT, i + 1, 1, i + 2);
     }
     if c == ByteClass::LINE_END {
         let next = maybe_consume_second_newline(table, text, i + 1);
-        return Piece {
-            kind: TokenKind::TEXT,
-            from: i,
-            len: 0,
-            next,
-        };
+        return Piece::new(TokenKind::TEXT, i, 0, next);
     }
-    Piece {
-        kind: TokenKind::BACKSLASH,
-        from: i,
-        len: 1,
-        next: i + 1,
-    }
+    Piece::new(TokenKind::BACKSLASH, i, 1, i + 1)
 }
 
 // `${` at place i opens a reference, up to `}`.
@@ -107,31 +103,16 @@ fn reference_at(table: &[u8; 256], text: &[u8], i: usize) -> Piece
     let end = name_end(table, text, i + 2);
     let closing = class_by(table, text, end);
     if closing == ByteClass::CLOSE_BRACE {
-        return Piece {
-            kind: TokenKind::VARIABLE,
-            from: i + 2,
-            len: end - (i + 2),
-            next: end + 1,
-        };
+        return Piece::new(TokenKind::VARIABLE, i + 2, end - (i + 2), end + 1);
     }
     if closing == ByteClass::PAST {
-        return Piece {
-            kind: Piece::NOT_CLOSED,
-            from: end,
-            len: 0,
-            next: end,
-        };
+        return Piece::new(Piece::NOT_CLOSED, end, 0, end);
     }
-    Piece {
-        kind: Piece::BAD_CHARACTER,
-        from: end,
-        len: 0,
-        next: end,
-    }
+    Piece::new(Piece::BAD_CHARACTER, end, 0, end)
 }
 
 // `$$` is text `$`. `$` before anything else but `{` puts both into Text. `$` at the end is text `$`.
-fn dollar_at(table: &[u8; 256], text: &[u8], i: usize) -> Piece
+pub fn dollar_at(table: &[u8; 256], text: &[u8], i: usize) -> Piece
     requires { ⌜ ClassTable (now table) × (i < length (now text)) ⌝ }
     ensures { λ r. ⌜ Shows (now (text .entry)) i (afterDollar (getD (now (text .entry)) i 0) (drop (i + 1) (now (text .entry)))) (r .kind) (r .from) (r .len) (r .next) ⌝ }
 {
@@ -140,27 +121,12 @@ fn dollar_at(table: &[u8; 256], text: &[u8], i: usize) -> Piece
         return reference_at(table, text, i);
     }
     if c == ByteClass::DOLLAR {
-        return Piece {
-            kind: TokenKind::TEXT,
-            from: i,
-            len: 1,
-            next: i + 2,
-        };
+        return Piece::new(TokenKind::TEXT, i, 1, i + 2);
     }
     if c == ByteClass::PAST {
-        return Piece {
-            kind: TokenKind::TEXT,
-            from: i,
-            len: 1,
-            next: i + 1,
-        };
+        return Piece::new(TokenKind::TEXT, i, 1, i + 1);
     }
-    Piece {
-        kind: TokenKind::TEXT,
-        from: i,
-        len: 2,
-        next: i + 2,
-    }
+    Piece::new(TokenKind::TEXT, i, 2, i + 2)
 }
 
 // The lexeme at place i, by the class of its first byte. The classes from BLANK up to DOUBLE are the kinds of their tokens.
@@ -170,60 +136,35 @@ pub fn lexeme_at(table: &[u8; 256], text: &[u8], i: usize) -> Piece
 {
     let first = class_by(table, text, i);
     if first < ByteClass::BLANK {
-        return Piece {
-            kind: TokenKind::TEXT,
-            from: i,
-            len: 1,
-            next: i + 1,
-        };
+        return Piece::new(TokenKind::TEXT, i, 1, i + 1);
     }
     if first < ByteClass::BACKSLASH {
-        return Piece {
-            kind: first as u32,
-            from: i,
-            len: 1,
-            next: i + 1,
-        };
+        return Piece::new(first as u32, i, 1, i + 1);
     }
     if first == ByteClass::BACKSLASH {
         return backslash_at(table, text, i);
     }
     if first == ByteClass::LINE_END {
         let next = maybe_consume_second_newline(table, text, i);
-        return Piece {
-            kind: TokenKind::NEW_LINE,
-            from: i,
-            len: 1,
-            next,
-        };
+        return Piece::new(TokenKind::NEW_LINE, i, 1, next);
     }
     if first == ByteClass::DOLLAR {
         return dollar_at(table, text, i);
     }
     if first == ByteClass::HASH {
         let next = comment_end(table, text, i + 1);
-        return Piece {
-            kind: TokenKind::TEXT,
-            from: i,
-            len: 0,
-            next,
-        };
+        return Piece::new(TokenKind::TEXT, i, 0, next);
     }
-    Piece {
-        kind: TokenKind::TEXT,
-        from: i,
-        len: 1,
-        next: i + 1,
-    }
+    Piece::new(TokenKind::TEXT, i, 1, i + 1)
 }
 
-// Past the bytes that are text by themselves.
-fn text_end(table: &[u8; 256], text: &[u8], i: usize) -> usize
-    requires { ⌜ ClassTable (now table) × (i ≤ length (now text)) ⌝ }
-    ensures { λ r. ⌜ r ≡ i + run isPlain (drop i (now (text .entry))) ⌝ }
+// Past the bytes whose class is below `bound`.
+pub fn classes_end(table: &[u8; 256], text: &[u8], i: usize, bound: u8) -> usize
+    requires { ⌜ ClassTable (now table) × (i ≤ length (now text)) × (bound ≤ 15) ⌝ }
+    ensures { λ r. ⌜ r ≡ i + run (isBelow bound) (drop i (now (text .entry))) ⌝ }
 {
     let mut j = i;
-    while class_by(table, text, j) < ByteClass::BLANK {
+    while class_by(table, text, j) < bound {
         j += 1;
     }
     j
@@ -234,14 +175,9 @@ pub fn piece_at(table: &[u8; 256], text: &[u8], i: usize) -> Piece
     requires { ⌜ ClassTable (now table) × (i < length (now text)) ⌝ }
     ensures { λ r. ⌜ Reads (now (text .entry)) i (r .kind) (r .from) (r .len) (r .next) ⌝ }
 {
-    let end = text_end(table, text, i);
+    let end = classes_end(table, text, i, ByteClass::BLANK);
     if i < end {
-        return Piece {
-            kind: TokenKind::TEXT,
-            from: i,
-            len: end - i,
-            next: end,
-        };
+        return Piece::new(TokenKind::TEXT, i, end - i, end);
     }
     lexeme_at(table, text, i)
 }

@@ -2,8 +2,9 @@
 pub mod lexeme;
 
 ghost use mathlib.Core.Path.{_≡_};
-ghost use Prim.Native.Nat.{_+_, _*_};
-ghost use lib.ListN.{length};
+ghost use mathlib.Core.Bool.{false, _||_};
+ghost use Prim.Native.Nat.{_+_, _*_, _≤_, _<_};
+ghost use lib.ListN.{length, take, drop};
 ghost use lib.Dec.{eqb};
 ghost use Rattle.rules.specs.Bytes.{pick};
 ghost use Rattle.scan.specs.Classes.{ClassTable};
@@ -11,11 +12,17 @@ ghost use Rattle.scan.specs.Stores.{puts};
 ghost use Rattle.tokens.specs.Entries.{entry, poolText};
 ghost use Rattle.lexer.specs.Lexes.{Room, Holds, Lexes, errorOf};
 ghost use Rattle.lexer.specs.Pieces.{errorShown};
-ghost use Rattle.lexer.specs.Inner.{Judges, Fillable, flushed, flushedCount, FlushRoom, made, PutRoom};
+ghost use Rattle.lexer.specs.Inner.{hasDollar, Judges, Fillable, flushed, flushedCount, FlushRoom, made, PutRoom};
 use lexeme::Piece;
+use lexeme::backslash_at;
+use lexeme::classes_end;
+use lexeme::comment_end;
+use lexeme::dollar_at;
 use lexeme::piece_at;
+use scan::class::ByteClass;
 use scan::class::CLASS;
-use scan::store::copy_part;
+use scan::class::class_in;
+use scan::store::copy;
 use scan::store::put4;
 use tokens::TokenKind;
 use utf8::code_point_at;
@@ -53,21 +60,34 @@ fn error_at(text: &[u8], kind: u32, from: usize) -> LexError
     LexError::InvalidVariableChar(c)
 }
 
-// The first pass.
+// The first pass. Only `$` can be refused, and only `#` and a backslash can hide one: the other bytes are passed.
 fn find_refusal(table: &[u8; 256], text: &[u8]) -> Verdict
     requires { ⌜ ClassTable (now table) ⌝ }
     ensures { λ r. ⌜ Judges (now (text .entry)) r ⌝ }
 {
     let mut i = 0;
     while i < text.len() {
-        let p = piece_at(table, text, i);
-        let kind = p.kind;
-        if TokenKind::NEW_LINE < kind {
-            let from = p.from;
-            let e = error_at(text, kind, from);
-            return Verdict::Bad(e, i);
+        let end = classes_end(table, text, i, ByteClass::BACKSLASH);
+        let c = class_in(table, text[i]);
+        if i < end {
+            i = end;
+        } else if c == ByteClass::DOLLAR {
+            let p = dollar_at(table, text, i);
+            let kind = p.kind;
+            if TokenKind::NEW_LINE < kind {
+                let from = p.from;
+                let e = error_at(text, kind, from);
+                return Verdict::Bad(e, i);
+            }
+            i = p.next;
+        } else if c == ByteClass::HASH {
+            i = comment_end(table, text, i + 1);
+        } else if c == ByteClass::BACKSLASH {
+            let p = backslash_at(table, text, i);
+            i = p.next;
+        } else {
+            i += 1;
         }
-        i = p.next;
     }
     Verdict::Fine
 }
@@ -98,6 +118,15 @@ fn flush_text(ws: &mut [u32], count: usize, start: usize, used: usize, source: u
     count
 }
 
+// The `len` bytes of the text from place `from` on go to the pool from place `used` on.
+fn keep_text(text: &[u8], from: usize, len: usize, pool: &mut [u8], used: usize)
+    requires { ⌜ (from + len ≤ length (now text)) × (used + len ≤ length (now pool)) ⌝ }
+    ensures { λ _. ⌜ now (pool .exit) ≡ puts (now (pool .entry)) used (take len (drop from (now (text .entry)))) ⌝ }
+{
+    let end = from + len;
+    copy(&text[from..end], pool, used);
+}
+
 // A token that isn't Text, at place i. Returns the pool's end.
 fn put_token(
     text: &[u8],
@@ -117,7 +146,7 @@ fn put_token(
 {
     if kind == TokenKind::VARIABLE {
         put4(ws, 4 * count, kind, used as u32, len as u32, i as u32);
-        copy_part(text, from, len, pool, used);
+        keep_text(text, from, len, pool, used);
         return used + len;
     }
     let b = text[i] as u32;
@@ -148,7 +177,7 @@ fn fill(table: &[u8; 256], text: &[u8], ws: &mut [u32], pool: &mut [u8]) -> Fill
         let len = p.len;
         if kind == TokenKind::TEXT {
             source = first_source(start, used, source, i);
-            copy_part(text, from, len, pool, used);
+            keep_text(text, from, len, pool, used);
             used = used + len;
         } else {
             count = flush_text(ws, count, start, used, source);
@@ -163,12 +192,42 @@ fn fill(table: &[u8; 256], text: &[u8], ws: &mut [u32], pool: &mut [u8]) -> Fill
     Filled { count, used }
 }
 
+fn either(a: bool, b: bool) -> bool
+    ensures { λ r. ⌜ r ≡ (a || b) ⌝ }
+{
+    if a { true } else { b }
+}
+
+// Whether there is a `$`.
+fn has_dollar(text: &[u8]) -> bool
+    ensures { λ r. ⌜ r ≡ hasDollar false (now (text .entry)) ⌝ }
+{
+    let mut found = false;
+    let mut i = 0;
+    while i < text.len() {
+        found = either(found, text[i] == b'$');
+        i += 1;
+    }
+    found
+}
+
+// The first pass, which only a text with a `$` needs.
+fn judge(table: &[u8; 256], text: &[u8]) -> Verdict
+    requires { ⌜ ClassTable (now table) ⌝ }
+    ensures { λ r. ⌜ Judges (now (text .entry)) r ⌝ }
+{
+    if has_dollar(text) {
+        return find_refusal(table, text);
+    }
+    Verdict::Fine
+}
+
 // Both passes, by a table of the classes of bytes.
 fn lex_by(table: &[u8; 256], text: &[u8], ws: &mut [u32], pool: &mut [u8]) -> Lexed
     requires { ⌜ ClassTable (now table) × Room (now text) (now ws) (now pool) ⌝ }
     ensures { λ r. ⌜ Lexes (now (text .entry)) (now (ws .entry)) (now (ws .exit)) (now (pool .entry)) (now (pool .exit)) r ⌝ }
 {
-    let v = find_refusal(table, text);
+    let v = judge(table, text);
     match v {
         Verdict::Bad(e, at) => Lexed::Refused(e, at),
         Verdict::Fine => {

@@ -1,5 +1,5 @@
 -- The search for the place of a name among those in byte order, and what the place says. Assumes nothing.
-use Prim.Native.Nat.{ℕ, zero, suc, _+_, _*_, _-_, _≤_, _<_}
+use Prim.Native.Nat.{ℕ, zero, suc, _+_, _*_, _-_, _/_, _≤_, _<_}
 use mathlib.Core.Path.{_≡_, refl, sym, _∙_, ap}
 use mathlib.Core.Bool.{Bool, true, false}
 use mathlib.Core.List.{List, [], _∷_, _++_, map}
@@ -15,6 +15,7 @@ use Rattle.rules.specs.Lines.{Assignment, assigned, insert}
 use Rattle.rules.proofs.TableLaws.{After, Sorted, or-false}
 use Rattle.rules.specs.Variables.{rankOf, keyAt}
 use Rattle.scan.specs.declared.order.Order.{Order}
+use Rattle.scan.specs.declared.order.Order.the-variants.{Less, Equal, Greater}
 use Rattle.scan.specs.Orders.{orderOf}
 use Rattle.scan.proofs.Orders.{isLess, isEqual, told-before, told-same}
 use Rattle.tokens.specs.Entries.{decode, tokenAt, poolText}
@@ -39,6 +40,14 @@ down (v ∷ vs) key s zero zero p h q = q
 down (v ∷ vs) key s zero (suc j) p h q = is-before (before-trans (after-before key (v .key .text) vs j (omega arith) (s .0)) (before-is (keyAt vs j .text) key q))
 down (v ∷ vs) key s (suc i) zero p h q = absurd (omega arith)
 down (v ∷ vs) key s (suc i) (suc j) p h q = down vs key (s .1) i j (omega arith) (omega arith) q
+
+-- of two names, the one at the lower rank stands before the other
+pair : (vs : List Assignment) → Sorted vs → (i j : ℕ) → i < j → j < length vs → Before (keyAt vs i .text) (keyAt vs j .text)
+unfolding keyAt
+pair [] s i j p h = absurd (omega arith)
+pair (v ∷ vs) s i zero p h = absurd (omega arith)
+pair (v ∷ vs) s zero (suc j) p h = after-before (v .key .text) (v .key .text) vs j (omega arith) (s .0)
+pair (v ∷ vs) s (suc i) (suc j) p h = pair vs (s .1) i j (omega arith) (omega arith)
 
 -- a search's bracket: p holds below lo, and not from hi on
 pub record Bracket (p : ℕ → Bool) (n lo hi : ℕ) : Type 0 where
@@ -155,6 +164,11 @@ place-insert v (w ∷ ws) e = go (before (v .key .text) (w .key .text)) refl (or
         let d : before (w .key .text) (v .key .text) ≡ true = is-before (before-total (v .key .text) (w .key .text) q (x .0)) in
         rw (q, d, insert, placeFor) (ap (λ (l : List Assignment). w ∷ l) (ih (x .1)))
 
+-- a search for `key` that stops where it is: it may be between lo and hi, and it isn't at hi
+pub record Searching (vs : List Assignment) (v : ℕ) (key : List ℕ) (lo hi : ℕ) : Type 0 where
+  pub bracket : Bracket (isBefore vs key) v lo hi
+  pub not-there : hi < v → isSame vs key hi ≡ false
+
 -- what the search reads: the keys of the variables are the tokens of the column of keys
 key-map : (ts : List Token) (starts ends ks : List ℕ) (i : ℕ) → i < length ks → keyAt (map (variableAt ts starts ends) ks) i ≡ tokenAt ts (getD ks i 0)
 unfolding keyAt
@@ -211,15 +225,6 @@ module _ (n count v : ℕ) (ws pool : List ℕ) (S : Searchable n count v ws poo
         let x = place-none key (variablesIn n count v ws pool) (S .sorted) (λ a. ap (isSame (variablesIn n count v ws pool) key) (sym q) ∙ h (omega arith)) in
         (sym l ∙ x .0, x .1)
 
-    pub rank-found : (b : Bool) → p < v → b ≡ isSame (variablesIn n count v ws pool) key p → b ≡ true → p ≡ rankOf key (variablesIn n count v ws pool)
-    rank-found b h x y = found h (sym x ∙ y) .0
-
-    pub rank-none : (b : Bool) → b ≡ isSame (variablesIn n count v ws pool) key p → b ≡ false → v ≡ rankOf key (variablesIn n count v ws pool)
-    rank-none b x y = none (λ h. sym x ∙ y) .0
-
-    pub rank-past : v ≤ p → v ≡ rankOf key (variablesIn n count v ws pool)
-    rank-past h = none (λ a. absurd (omega arith)) .0
-
     pub assigned-by : (b : Bool) → p < v → b ≡ isSame (variablesIn n count v ws pool) key p → b ≡ assigned key (variablesIn n count v ws pool)
     assigned-by b h x = go b refl
       where
@@ -229,3 +234,53 @@ module _ (n count v : ℕ) (ws pool : List ℕ) (S : Searchable n count v ws poo
 
     pub assigned-past : v ≤ p → false ≡ assigned key (variablesIn n count v ws pool)
     assigned-past h = sym (none (λ a. absurd (omega arith)) .1)
+
+  pub search-start : (key : List ℕ) → Searching (variablesIn n count v ws pool) v key 0 v
+  search-start key = record { bracket = bracket-start (isBefore (variablesIn n count v ws pool) key) v; not-there = λ h. absurd (omega arith) }
+
+  module _ (key : List ℕ) (lo hi : ℕ) (B : Searching (variablesIn n count v ws pool) v key lo hi) where
+    pub search-end : hi ≤ lo → v ≡ rankOf key (variablesIn n count v ws pool)
+    search-end h =
+        let e : lo ≡ hi = omega (arith, B .bracket .lo-le) in
+        none key lo (bracket-end (variablesIn n count v ws pool) key v lo hi table-length h (B .bracket)) (λ l. ap (isSame (variablesIn n count v ws pool) key) e ∙ B .not-there (omega arith)) .0
+
+    -- by how the name in the middle compares
+    module _ (d : lo < hi) (o : Order) (e : o ≡ orderOf (poolText (tokenAt (decode count ws pool) (getD (keysOf n n ws) (lo + (hi - lo) / 2) 0))) key) where
+      abbrev m : ℕ
+      m = lo + (hi - lo) / 2
+
+      p : lo ≤ m
+      p = omega arith
+
+      h : m < hi
+      h = omega arith
+
+      in-table : m < v
+      in-table = let g = h in omega (arith, B .bracket .hi-le)
+
+      pub search-up : o ≡ Less → Searching (variablesIn n count v ws pool) v key (lo + (hi - lo) / 2 + 1) hi
+      unfolding isLess
+      search-up q =
+          record {
+            bracket = go-up (variablesIn n count v ws pool) key v lo hi table-length (S .sorted) (B .bracket) m p h (sym (reads-before m key in-table o Less e q));
+            not-there = B .not-there;
+          }
+
+      pub search-down : o ≡ Greater → Searching (variablesIn n count v ws pool) v key lo (lo + (hi - lo) / 2)
+      unfolding isLess isEqual
+      search-down q =
+          record {
+            bracket = go-down (variablesIn n count v ws pool) key v lo hi table-length (S .sorted) (B .bracket) m p h (sym (reads-before m key in-table o Greater e q));
+            not-there = λ l. sym (reads-same m key in-table o Greater e q);
+          }
+
+      pub search-found : o ≡ Equal → lo + (hi - lo) / 2 ≡ rankOf key (variablesIn n count v ws pool)
+      unfolding isLess isEqual
+      search-found q =
+          let vs = variablesIn n count v ws pool in
+          let l = table-length in
+          let b = go-down vs key v lo hi table-length (S .sorted) (B .bracket) m p h (sym (reads-before m key in-table o Equal e q)) in
+          let z : isSame vs key m ≡ true = sym (reads-same m key in-table o Equal e q) in
+          let k : keyAt vs m .text ≡ key = same-eq (keyAt vs m .text) key z in
+          let r : m ≡ placeFor key vs = bracket-place vs key m (omega (arith, in-table)) (λ i f. is-before (rw k at (pair vs (S .sorted) i m f (omega (arith, in-table))))) (λ i f g. b .above i f (omega arith)) in
+          found key m r in-table z .0

@@ -13,7 +13,7 @@ use Rattle.rules.specs.Tokens.{isA, Text}
 use Rattle.rules.specs.Lines.{Assignment, assigned, insert}
 use Rattle.scan.specs.Stores.{puts}
 use Rattle.scan.proofs.Lists.{rest-at, cell-in, cell-past}
-use Rattle.scan.proofs.Stores.{length-puts, puts-eq, getD-puts-below, getD-puts-above, column-before}
+use Rattle.scan.proofs.Stores.{length-puts, puts-comm, puts-eq, getD-puts-below, getD-puts-above, column-before}
 use Rattle.tokens.specs.Entries.{decode, tokenAt, poolText}
 use Rattle.tokens.proofs.TokenLaws.{decode-same}
 use Rattle.workspace.specs.Map.{keysOf, startsOf, endsOf, variableAt, variablesIn}
@@ -21,32 +21,44 @@ use Rattle.names.specs.declared.Insertion.the-variants.{Inserted, Duplic
 use Rattle.names.specs.Store.{placeFor, All, Searchable, Insertable, Inserts, stored, newOne, isAssigned}
 use Rattle.names.proofs.Places.{place-insert, place-le, table-length, text-pooled, assigned-by, assigned-past}
 
-pub record Shifting (n v p key : ℕ) (ws₀ ws : List ℕ) (carry i : ℕ) : Type 0 where
-  pub within : i ≤ v
-  pub long : length ws ≡ length ws₀
+-- those from i on have gone one up
+pub record Shifting (n v p : ℕ) (ws₀ ws : List ℕ) (i : ℕ) : Type 0 where
+  pub low : p ≤ i
+  pub high : i ≤ v
   pub room : 4 * n + v < length ws₀
-  pub left : puts ws (4 * n + i) (carry ∷ take (v - i) (drop (4 * n + i) ws)) ≡ puts ws₀ (4 * n + p) (key ∷ take (v - p) (drop (4 * n + p) ws₀))
+  pub long : length ws ≡ length ws₀
+  pub moved : ws ≡ puts ws₀ (4 * n + i + 1) (take (v - i) (drop (4 * n + i) ws₀))
 
-pub shift-start : (n v p key : ℕ) (ws : List ℕ) → p ≤ v → 4 * n + v < length ws → Shifting n v p key ws ws key p
-shift-start n v p key ws h r = record { within = h; long = refl; room = r; left = refl }
+pub shift-start : (n v p : ℕ) (ws : List ℕ) → p ≤ v → 4 * n + v < length ws → Shifting n v p ws ws v
+shift-start n v p ws h r = let z : v - v ≡ 0 = omega arith in record { low = h; high = omega arith; room = r; long = refl; moved = rw z }
 
-module _ (n v p key : ℕ) (ws₀ ws : List ℕ) (carry i : ℕ) (S : Shifting n v p key ws₀ ws carry i) where
-  pub shift-more : i < v → Shifting n v p key ws₀ (set ws (4 * n + i) carry) (getD ws (4 * n + i) 0) (i + 1)
-  shift-more h =
-      let e : v - i ≡ suc (v - (i + 1)) = omega arith in
-      let d : 4 * n + i + 1 ≡ 4 * n + (i + 1) = omega arith in
-      let r : drop (4 * n + i) ws ≡ getD ws (4 * n + i) 0 ∷ drop (4 * n + (i + 1)) ws = rest-at ws (4 * n + i) (omega (arith, S .long, S .room)) ∙ rw d in
-      let z : puts ws (4 * n + i) (carry ∷ getD ws (4 * n + i) 0 ∷ take (v - (i + 1)) (drop (4 * n + (i + 1)) ws)) ≡ puts ws₀ (4 * n + p) (key ∷ take (v - p) (drop (4 * n + p) ws₀)) = rw (e, r) at (S .left) in
-      let y : puts (set ws (4 * n + i) carry) (4 * n + i + 1) (getD ws (4 * n + i) 0 ∷ take (v - (i + 1)) (drop (4 * n + (i + 1)) ws)) ≡ puts ws₀ (4 * n + p) (key ∷ take (v - p) (drop (4 * n + p) ws₀)) = z in
+-- a store below a run of stores is a longer run
+store-below : (l : List ℕ) (i x : ℕ) (us : List ℕ) → set (puts l (i + 1) us) i x ≡ puts l i (x ∷ us)
+store-below l i x us = sym (puts-comm l i (i + 1) (x ∷ []) us (omega arith))
+
+module _ (n v p : ℕ) (ws₀ ws : List ℕ) (i : ℕ) (S : Shifting n v p ws₀ ws i) where
+  pub shift-more : (j : ℕ) → p < i → j ≡ i - 1 → Shifting n v p ws₀ (set ws (4 * n + j + 1) (getD ws (4 * n + j) 0)) j
+  shift-more j h q =
+      let e : i ≡ j + 1 = omega arith in
+      let d : 4 * n + i ≡ 4 * n + j + 1 = omega arith in
+      let m : v - j ≡ suc (v - i) = omega (arith, S .high) in
+      let a = 4 * n + j in
+      let us = take (v - i) (drop (4 * n + i) ws₀) in
+      let x : getD ws a 0 ≡ getD ws₀ a 0 = ap (λ (l : List ℕ). getD l a 0) (S .moved) ∙ getD-puts-below ws₀ (4 * n + i + 1) us a 0 (omega arith) in
+      let r : take (v - j) (drop a ws₀) ≡ getD ws₀ a 0 ∷ us = rw (m, rest-at ws₀ a (omega (arith, S .room, S .high)), d) in
+      let b : ws ≡ puts ws₀ (a + 1 + 1) us = S .moved ∙ ap (λ (k : ℕ). puts ws₀ (k + 1) us) d in
       record {
-        within = omega arith;
-        long = length-set ws (4 * n + i) carry ∙ S .long;
+        low = omega arith;
+        high = omega (arith, S .high);
         room = S .room;
-        left = rw (drop-set-lt (4 * n + (i + 1)) ws (4 * n + i) carry (omega arith)) (rw d at y);
+        long = length-set ws (a + 1) (getD ws a 0) ∙ S .long;
+        moved = ap₂ (λ (l : List ℕ) (y : ℕ). set l (a + 1) y) b x ∙ store-below ws₀ (a + 1) (getD ws₀ a 0) us ∙ ap (puts ws₀ (a + 1)) (sym r);
       }
 
-  pub shift-end : v ≤ i → set ws (4 * n + i) carry ≡ puts ws₀ (4 * n + p) (key ∷ take (v - p) (drop (4 * n + p) ws₀))
-  shift-end h = let e : v - i ≡ 0 = omega arith in rw e at (S .left)
+  pub shift-end : (key : ℕ) → i ≤ p → set ws (4 * n + p) key ≡ puts ws₀ (4 * n + p) (key ∷ take (v - p) (drop (4 * n + p) ws₀))
+  shift-end key h =
+      let e : i ≡ p = omega (arith, S .low) in
+      ap (λ (l : List ℕ). set l (4 * n + p) key) (rw e at (S .moved)) ∙ store-below ws₀ (4 * n + p) key (take (v - p) (drop (4 * n + p) ws₀))
 
 drop-take : (p k : ℕ) (l : List ℕ) → p ≤ length l → drop p (take (p + k) l) ≡ take k (drop p l)
 drop-take p k l h = ap (drop p) (take-add p k l) ∙ drop-at (take p l) (take k (drop p l)) p (length-take-le p l h)

@@ -90,29 +90,37 @@ pub fn rank(ws: &[u32], pool: &[u8], n: usize, count: usize, v: usize, key: &[u8
     requires { ⌜ Searchable n count v (now ws) (now pool) ⌝ }
     ensures { λ r. ⌜ r ≡ rankOf (now (key .entry)) (variablesIn n count v (now (ws .entry)) (now (pool .entry))) ⌝ }
 {
-    let p = place_for(ws, pool, n, count, v, key);
-    if p < v {
-        if is_same(ws, pool, n, count, v, p, key) {
-            return p;
+    let mut lo = 0;
+    let mut hi = v;
+    while lo < hi {
+        let mid = lo + (hi - lo) / 2;
+        let o = order_at(ws, pool, n, count, mid, key);
+        match o {
+            Order::Less => {
+                lo = mid + 1;
+            }
+            Order::Equal => {
+                return mid;
+            }
+            Order::Greater => {
+                hi = mid;
+            }
         }
     }
     v
 }
 
-// Key goes to place p of the v sorted ones.
+// Key goes to place p of the v sorted ones: those from there on go one up, the last one first.
 fn shift(ws: &mut [u32], n: usize, v: usize, p: usize, key: usize)
     requires { ⌜ (4 * n + v < length (now ws)) × (p ≤ v) × (key ≤ 65535) ⌝ }
     ensures { λ r. ⌜ now (ws .exit) ≡ puts (now (ws .entry)) (4 * n + p) (key ∷ take (v - p) (drop (4 * n + p) (now (ws .entry)))) ⌝ }
 {
-    let mut carry = key as u32;
-    let mut i = p;
-    while i < v {
-        let x = ws[4 * n + i];
-        ws[4 * n + i] = carry;
-        carry = x;
-        i += 1;
+    let mut i = v;
+    while p < i {
+        i -= 1;
+        ws[4 * n + i + 1] = ws[4 * n + i];
     }
-    ws[4 * n + i] = carry;
+    ws[4 * n + p] = key as u32;
 }
 
 // Whether the name of token j is that of the variable at p, where it belongs.

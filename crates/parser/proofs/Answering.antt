@@ -9,7 +9,9 @@ use lib.Dec.{eqb, ltb, leb}
 use lib.ListN.{length, getD, take, drop, length-take, drop-of-length-le}
 use borrow.Author.Tests.{eqb-true, lt-ltb, le-ltb, le-leb}
 use Rattle.rules.specs.Bytes.{pick, all}
-use Rattle.rules.specs.Lexing.{isIdentifier}
+use Rattle.rules.specs.Lexing.{isIdentifier, class, identifier}
+use Rattle.scan.specs.Classes.{classNumber}
+use Rattle.scan.proofs.Classes.{test-true, test-false}
 use Rattle.scan.proofs.Lists.{rest-at}
 use Rattle.rules.specs.Tokens.{Token, token, noName, isA, Text, Variable, pooled, shownName}
 use Rattle.rules.specs.Numbers as Rules
@@ -79,15 +81,15 @@ pub text-shows : (t : Token) → isA Text t ≡ true → shownName t ≡ t
 unfolding shownName pooled isA pick
 text-shows t e = rw (eqb-true (t .kind) 1 e)
 
--- a variable's name, byte by byte
-module _ (name : List ℕ) (i : ℕ) (h : i < length name) (b : Bool) (e : b ≡ isIdentifier (getD name i 0)) where
-  pub name-more : b ≡ true → all isIdentifier (drop (i + 1) name) ≡ all isIdentifier (drop i name)
-  unfolding all
-  name-more y = sym (rw (rest-at name i h, sym e ∙ y) refl)
+-- a variable's name, byte by byte, each by the number of its class
+module _ (name : List ℕ) (i : ℕ) (h : i < length name) (k : ℕ) (e : k ≡ classNumber (class (getD name i 0))) where
+  pub name-more : k ≡ 1 → all isIdentifier (drop (i + 1) name) ≡ all isIdentifier (drop i name)
+  unfolding all classNumber
+  name-more y = sym (rw (rest-at name i h, test-true identifier (getD name i 0) (sym e ∙ y)) refl)
 
-  pub name-stop : b ≡ false → false ≡ all isIdentifier (drop i name)
-  unfolding all
-  name-stop y = sym (rw (rest-at name i h, sym e ∙ y) refl)
+  pub name-stop : (k ≡ 1 → ⊥) → false ≡ all isIdentifier (drop i name)
+  unfolding all classNumber
+  name-stop y = sym (rw (rest-at name i h, test-false identifier (getD name i 0) (λ q. y (e ∙ q))) refl)
 
 pub name-end : (name : List ℕ) (i : ℕ) → length name ≤ i → true ≡ all isIdentifier (drop i name)
 unfolding all

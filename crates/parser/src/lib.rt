@@ -8,6 +8,7 @@ ghost use Rattle.rules.specs.Tokens.{Token, noName, shownName};
 ghost use Rattle.rules.specs.Lexing.{isIdentifier};
 ghost use Rattle.rules.specs.Lines.{readAssignment, readField};
 ghost use Rattle.answers.specs.Tells.{Names};
+ghost use Rattle.scan.specs.Classes.{ClassTable};
 ghost use Rattle.tokens.specs.Entries.{decode, tokenAt};
 ghost use Rattle.lines.specs.Line.{endingAt};
 ghost use Rattle.parser.specs.Parse.{Says, Ready, AtValue, IsField, past, Takes, KeepsField, Beyond, Steps, NoFields, Parsable, Parses};
@@ -25,7 +26,9 @@ use lines::list::Listed;
 use lines::list::list_value;
 use names::Insertion;
 use names::insert;
-use scan::class::is_valid_identifier;
+use scan::class::ByteClass;
+use scan::class::CLASS;
+use scan::class::class_in;
 use scan::store::zero_from;
 use tokens::kind_at;
 use tokens::place_at;
@@ -51,12 +54,13 @@ pub enum Parsed {
 }
 
 // Every character is one that references may have too.
-fn is_variable_name(name: &[u8]) -> bool
+fn is_variable_name(table: &[u8; 256], name: &[u8]) -> bool
+    requires { ⌜ ClassTable (now table) ⌝ }
     ensures { λ r. ⌜ r ≡ all isIdentifier (now (name .entry)) ⌝ }
 {
     let mut i = 0;
     while i < name.len() {
-        if is_valid_identifier(name[i]) {
+        if class_in(table, name[i]) == ByteClass::IDENTIFIER {
             i += 1;
         } else {
             return false;
@@ -139,6 +143,7 @@ fn keep_field(
 
 // A line with `=`: "the value is read, then 10, then 11".
 fn assign(
+    table: &[u8; 256],
     ws: &mut [u32],
     pool: &[u8],
     n: usize,
@@ -148,12 +153,12 @@ fn assign(
     from: usize,
     s: Progress,
 ) -> Step
-    requires { ⌜ AtValue n count end key from (now ws) (now pool) s ⌝ }
+    requires { ⌜ ClassTable (now table) × AtValue n count end key from (now ws) (now pool) s ⌝ }
     ensures { λ r. ⌜ Takes n count end (now (ws .entry)) (now (ws .exit)) (now (pool .entry)) s (readAssignment (tokenAt (decode count (now (ws .entry)) (now (pool .entry))) key)
         (endingAt count end (now (ws .entry)) (now (pool .entry))) (drop from (decode end (now (ws .entry)) (now (pool .entry))))) r × Beyond n (now (ws .entry)) (now (ws .exit)) ⌝ }
 {
     let to = value_end(ws, count, end, from);
-    if is_variable_name(text_at(ws, pool, count, key)) {
+    if is_variable_name(table, text_at(ws, pool, count, key)) {
         let stored = insert(ws, pool, n, count, s.variables, key, from, to);
         return match stored {
             Insertion::Duplicate => Step::Refused(refusal(
@@ -234,8 +239,8 @@ fn unexpected(ws: &[u32], pool: &[u8], count: usize, k: usize, number: Number) -
 }
 
 // The line that starts at token s.next.
-fn line(ws: &mut [u32], pool: &[u8], n: usize, count: usize, s: Progress) -> Step
-    requires { ⌜ Ready n count (s .variables) (s .next) (now ws) (now pool) × (s .next < count) ⌝ }
+fn line(table: &[u8; 256], ws: &mut [u32], pool: &[u8], n: usize, count: usize, s: Progress) -> Step
+    requires { ⌜ ClassTable (now table) × Ready n count (s .variables) (s .next) (now ws) (now pool) × (s .next < count) ⌝ }
     ensures { λ r. ⌜ Steps n count (now (ws .entry)) (now (ws .exit)) (now (pool .entry)) s r × Beyond n (now (ws .entry)) (now (ws .exit)) ⌝ }
 {
     let j = s.next;
@@ -262,14 +267,14 @@ fn line(ws: &mut [u32], pool: &[u8], n: usize, count: usize, s: Progress) -> Ste
             Number::UnexpectedAfterKey,
         )),
         LineStart::Ended => Step::Refused(refusal(Number::EndedAfterKey, 0, no_name())),
-        LineStart::Assigns(key, from) => assign(ws, pool, n, count, end, key, from, s),
+        LineStart::Assigns(key, from) => assign(table, ws, pool, n, count, end, key, from, s),
         LineStart::Gives(key, from) => give(ws, pool, n, count, end, key, from, s),
     }
 }
 
 // Line after line, where no field is in the workspace yet.
-fn read_lines(ws: &mut [u32], pool: &[u8], n: usize, count: usize) -> Parsed
-    requires { ⌜ Parsable n count (now ws) × NoFields n (now ws) ⌝ }
+fn read_lines(table: &[u8; 256], ws: &mut [u32], pool: &[u8], n: usize, count: usize) -> Parsed
+    requires { ⌜ ClassTable (now table) × Parsable n count (now ws) × NoFields n (now ws) ⌝ }
     ensures { λ r. ⌜ Parses n count (now (ws .entry)) (now (ws .exit)) (now (pool .entry)) r × Beyond n (now (ws .entry)) (now (ws .exit)) ⌝ }
 {
     let mut s = Progress {
@@ -278,7 +283,7 @@ fn read_lines(ws: &mut [u32], pool: &[u8], n: usize, count: usize) -> Parsed
         next: 0,
     };
     while s.next < count {
-        let step = line(ws, pool, n, count, s);
+        let step = line(table, ws, pool, n, count, s);
         match step {
             Step::More(t) => s = t,
             Step::Refused(a) => return Parsed::Refused(a),
@@ -287,11 +292,20 @@ fn read_lines(ws: &mut [u32], pool: &[u8], n: usize, count: usize) -> Parsed
     Parsed::Lines(s.variables)
 }
 
-// Reads the lines of the `count` tokens: how many variables there are, with the file in the workspace, or the first refusal.
+// Reads the lines of the `count` tokens, by a table of the classes of bytes.
+fn parse_by(table: &[u8; 256], ws: &mut [u32], pool: &[u8], n: usize, count: usize) -> Parsed
+    requires { ⌜ ClassTable (now table) × Parsable n count (now ws) ⌝ }
+    ensures { λ r. ⌜ Parses n count (now (ws .entry)) (now (ws .exit)) (now (pool .entry)) r × Beyond n (now (ws .entry)) (now (ws .exit)) ⌝ }
+{
+    zero_from(ws, 12 * n, 11);
+    read_lines(table, ws, pool, n, count)
+}
+
+// Reads the lines of the `count` tokens: how many variables there are, with the file in the workspace, or the first refusal. The table is made once, and lent.
 pub fn parse(ws: &mut [u32], pool: &[u8], n: usize, count: usize) -> Parsed
     requires { ⌜ Parsable n count (now ws) ⌝ }
     ensures { λ r. ⌜ Parses n count (now (ws .entry)) (now (ws .exit)) (now (pool .entry)) r × Beyond n (now (ws .entry)) (now (ws .exit)) ⌝ }
 {
-    zero_from(ws, 12 * n, 11);
-    read_lines(ws, pool, n, count)
+    let table = CLASS;
+    parse_by(&table, ws, pool, n, count)
 }

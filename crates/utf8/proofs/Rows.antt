@@ -109,7 +109,7 @@ after-byte (r ∷ due) b bs = go (inRange r b)
     go true = refl
     go false = refl
 
--- a turn of is_well_formed: d is what is due after the byte at i
+-- a turn of goes_by_rows: d is what is due after the byte at i
 module _ (text : List ℕ) (i count low high : ℕ) (d : Due) (h : i < length text) (e : dueOf d ≡ after (ranges count low high) (getD text i 0)) where
   turn : goesOn (dueOf d) (drop (i + 1) text) ≡ follows (ranges count low high) (drop i text)
   turn = rw (add-one, drop-cons text i 0 h, after-byte (ranges count low high) (getD text i 0) (drop (suc i) text), e)

@@ -3,7 +3,9 @@ use Prim.Native.Nat.{ℕ, zero, suc}
 use mathlib.Core.Bool.{true, false}
 use mathlib.Core.List.{List, [], _∷_}
 use mathlib.Core.Option.{Option, none, some}
+use lib.Dec.{ltb}
 use lib.ListN.{replicate}
+use Rattle.rules.specs.Bytes.{pick}
 use Rattle.rules.specs.Utf8.{Range, _to_, inRange, dueAfter, rows}
 use Rattle.utf8.specs.declared.Due.{Due}
 use Rattle.utf8.specs.declared.Due.the-variants.{Bytes, Never}
@@ -21,3 +23,8 @@ dueOf Never = none
 unfoldable pub after : List Range → ℕ → Option (List Range)
 after [] b = dueAfter b rows
 after (r ∷ due) b = elim (inRange r b) [ true ↦ some due | false ↦ none ]
+
+-- the highest of m and the bytes
+unfoldable pub highestFrom : ℕ → List ℕ → ℕ
+highestFrom m [] = m
+highestFrom m (b ∷ bs) = highestFrom (pick (ltb m b) b m) bs

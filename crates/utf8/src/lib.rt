@@ -1,9 +1,11 @@
 // Well-formed UTF-8 by the Unicode Standard, section 3.9: Table 3-7, one row of it a line below; and the code point at a place.
 ghost use mathlib.Core.Path.{_≡_};
 ghost use Prim.Native.Nat.{_+_, _-_, _≤_};
+ghost use lib.Dec.{ltb};
 ghost use lib.ListN.{getD, drop};
+ghost use Rattle.rules.specs.Bytes.{pick};
 ghost use Rattle.rules.specs.Utf8.{dueAfter, rows, wellFormed, leading, trailing, codePoint};
-ghost use Rattle.utf8.specs.Dues.{ranges, dueOf, after};
+ghost use Rattle.utf8.specs.Dues.{ranges, dueOf, after, highestFrom};
 
 // What is due after a byte: so many bytes, the first of them from the second number to the third and the others from 0x80 to 0xBF. Or no text goes on so.
 enum Due {
@@ -45,7 +47,27 @@ fn next(count: u8, low: u8, high: u8, b: u8) -> Due
     Due::Bytes(count - 1, 0x80, 0xBF)
 }
 
-pub fn is_well_formed(text: &[u8]) -> bool
+fn higher(a: u8, b: u8) -> u8
+    ensures { λ r. ⌜ r ≡ pick (ltb a b) b a ⌝ }
+{
+    if a < b { b } else { a }
+}
+
+// The highest byte; 0 where there is none.
+fn highest(text: &[u8]) -> u8
+    ensures { λ r. ⌜ r ≡ highestFrom 0 (now (text .entry)) ⌝ }
+{
+    let mut most = 0;
+    let mut i = 0;
+    while i < text.len() {
+        most = higher(most, text[i]);
+        i += 1;
+    }
+    most
+}
+
+// Byte by byte, by the rows of the table.
+fn goes_by_rows(text: &[u8]) -> bool
     ensures { λ r. ⌜ r ≡ wellFormed (now (text .entry)) ⌝ }
 {
     let mut count = 0;
@@ -67,6 +89,16 @@ pub fn is_well_formed(text: &[u8]) -> bool
         i += 1;
     }
     count == 0
+}
+
+// A text of the table's first row alone, which is ASCII, is found so by its highest byte.
+pub fn is_well_formed(text: &[u8]) -> bool
+    ensures { λ r. ⌜ r ≡ wellFormed (now (text .entry)) ⌝ }
+{
+    if highest(text) < 0x80 {
+        return true;
+    }
+    goes_by_rows(text)
 }
 
 // a - b, or 0 where b is larger.

@@ -13,7 +13,7 @@ use std::path::Path;
 use std::process::ExitCode;
 use std::time::{Duration, Instant};
 
-/// For how long each of the three is timed, at least once.
+/// For how long each of the four is timed, at least once.
 const BUDGET: Duration = Duration::from_millis(600);
 
 /// The shortest time that is taken as one measurement.
@@ -36,7 +36,7 @@ fn main() -> ExitCode {
 
     let mut rows = Vec::new();
     println!(
-        "family, text: Rust, reader, crate in microseconds; times as fast (reader, crate); growth; verdict"
+        "family, text: Rust, reader, crate, zeroing in microseconds; times as fast (reader, crate); growth; verdict"
     );
     for family in FAMILIES {
         if asked.is_empty() || asked.iter().any(|name| name == family.name) {
@@ -65,8 +65,12 @@ struct Row {
     bytes: usize,
     /// Microseconds for upstream's Rust, the reader alone, and the crate around it.
     times: [f64; 3],
+    /// Microseconds for zeroing the workspace alone, which each call must do.
+    zeroing: f64,
     /// How many times the reader's time grew from the row before.
     growth: Option<f64>,
+    /// How many times that of zeroing alone grew.
+    zeroing_growth: Option<f64>,
     verdict: String,
 }
 
@@ -88,9 +92,10 @@ impl std::fmt::Display for Row {
         let [reader_ratio, crate_ratio] = self.ratios();
         write!(
             f,
-            "{:10} {:6}: {rust:10.1} {reader:9.1} {whole:9.1}; {reader_ratio:7.2} {crate_ratio:7.2}; {:4}; {}",
+            "{:10} {:6}: {rust:10.1} {reader:9.1} {whole:9.1} {:7.1}; {reader_ratio:7.2} {crate_ratio:7.2}; {:4}; {}",
             self.family,
             self.bytes,
+            self.zeroing,
             self.shown_growth(),
             self.verdict
         )
@@ -106,10 +111,20 @@ fn measure(family: &Family) -> Vec<Row> {
     let mut rows: Vec<Row> = Vec::new();
     let last = sets.len() - 1;
     for (at, texts) in sets.iter().enumerate() {
-        let times = time(texts);
-        let growth = rows.last().map(|before| times[1] / before.times[1]);
+        let [rust, reader, whole, zeroing] = time(texts);
+        let growth = rows.last().map(|before| reader / before.times[1]);
+        let zeroing_growth = rows.last().map(|before| zeroing / before.zeroing);
         let bytes = texts.iter().map(Vec::len).sum();
-        let mut row = Row { family: family.name, bytes, times, growth, verdict: String::new() };
+        let times = [rust, reader, whole];
+        let mut row = Row {
+            family: family.name,
+            bytes,
+            times,
+            zeroing,
+            growth,
+            zeroing_growth,
+            verdict: String::new(),
+        };
         row.verdict = verdict(family, &row, at == last);
         rows.push(row);
     }
@@ -137,12 +152,13 @@ fn verdict(family: &Family, row: &Row, largest: bool) -> String {
     words.join(", ")
 }
 
-/// Microseconds for all the texts: upstream's Rust, the reader alone, the crate around it. The three take turns, and of each
-/// the best turn counts.
-fn time(texts: &[Vec<u8>]) -> [f64; 3] {
+/// Microseconds for all the texts: upstream's Rust, the reader alone, the crate around it, and zeroing as much workspace as the
+/// reader must. The four take turns, and of each the best turn counts.
+fn time(texts: &[Vec<u8>]) -> [f64; 4] {
     let mut buffers = Buffers::for_texts(texts);
+    let mut workspace = vec![u32::MAX; buffers.workspace.len()];
     let strings: Vec<&str> = texts.iter().filter_map(|text| std::str::from_utf8(text).ok()).collect();
-    let mut subjects: [&mut dyn FnMut(); 3] = [
+    let mut subjects: [&mut dyn FnMut(); 4] = [
         &mut || {
             for text in &strings {
                 drop(black_box(cuddld_pkg_config::PkgConfig::parse(black_box(text))));
@@ -158,10 +174,15 @@ fn time(texts: &[Vec<u8>]) -> [f64; 3] {
                 drop(black_box(PkgConfig::parse(black_box(text))));
             }
         },
+        &mut || {
+            for text in &strings {
+                black_box(&mut workspace)[..raw::workspace_entries(text.len())].fill(0);
+            }
+        },
     ];
-    let mut best = [f64::INFINITY; 3];
-    let mut spent = [Duration::ZERO; 3];
-    let mut repeats = [1_u32; 3];
+    let mut best = [f64::INFINITY; 4];
+    let mut spent = [Duration::ZERO; 4];
+    let mut repeats = [1_u32; 4];
     while spent.iter().any(|spent| *spent < BUDGET) {
         for (which, subject) in subjects.iter_mut().enumerate() {
             if spent[which] >= BUDGET {
@@ -223,7 +244,7 @@ Made in `host/` by
 
     cargo run --release -p bench -- write
 
-Upstream's Rust and the proved reader in one process, both x86-64, on the same texts, all built for release. The three take
+Upstream's Rust and the proved reader in one process, both x86-64, on the same texts, all built for release. The four take
 turns, and of each the best turn counts. Times are in microseconds and say little on another machine; the ratios should hold.
 Processor{}.
 
@@ -231,12 +252,14 @@ Processor{}.
 - reader: `cabbagelute_read_in` alone. Its buffers were made once and are not cleared between calls.
 - crate: `PkgConfig::parse` of the crate `cabbagelute`: it makes all buffers, calls the reader, and copies the values into
   strings, which are dropped.
+- zeroing: a fill of the first 12n + 64 workspace entries with 0 and nothing else. Each call ends with it (document 01,
+  \"Buffers\"), so no reader takes less.
 
 The verdict is about the reader: how many times as fast as the Rust at the largest size, and how its time grows where the text
 doubles.
 
-| family | bytes | Rust | reader | crate | Rust / reader | Rust / crate | growth | verdict |
-|---|---|---|---|---|---|---|---|---|
+| family | bytes | Rust | reader | crate | zeroing | Rust / reader | Rust / crate | growth | verdict |
+|---|---|---|---|---|---|---|---|---|---|
 ",
         processor.trim_start()
     );
@@ -245,9 +268,10 @@ doubles.
         let [reader_ratio, crate_ratio] = row.ratios();
         writeln!(
             page,
-            "| {} | {} | {rust:.1} | {reader:.1} | {whole:.1} | {reader_ratio:.2} | {crate_ratio:.2} | {} | {} |",
+            "| {} | {} | {rust:.1} | {reader:.1} | {whole:.1} | {:.1} | {reader_ratio:.2} | {crate_ratio:.2} | {} | {} |",
             row.family,
             row.bytes,
+            row.zeroing,
             row.shown_growth(),
             row.verdict
         )
@@ -257,5 +281,83 @@ doubles.
     for family in FAMILIES {
         writeln!(page, "- {}: {}.", family.name, family.about).expect("a string takes all");
     }
+    page += "\nBars that are missed, and why:\n\n";
+    let missed: Vec<&Row> = rows.iter().filter(|row| row.verdict.contains("MISSED")).collect();
+    for row in &missed {
+        writeln!(page, "- {} at {} bytes, {}: {}", row.family, row.bytes, row.verdict, reason(row))
+            .expect("a string takes all");
+    }
+    if missed.is_empty() {
+        page += "- None.\n";
+    }
+    page += "\nGrowth that no bar bounds:\n\n";
+    for name in ["reversed", "wide"] {
+        let growths: Vec<String> = rows
+            .iter()
+            .filter(|row| row.family == name)
+            .filter_map(|row| row.growth)
+            .map(|growth| format!("{growth:.2}"))
+            .collect();
+        writeln!(page, "- {name}: {} for each doubling.", growths.join(" and ")).expect("a string takes all");
+    }
+    page += "
+Their V names take V passes, since each name waits for the one after it in byte order. The reader keeps names in 32 blocks,
+and a pass goes only over blocks in which a name waits for a value that was just found: about V / 32 names a pass, so V\u{b2} / 32
+visits in all. A visit goes on where the last one of that name stopped. Document 01 fixes what the passes find, and so the
+answers 15 and 16, but not how many names are looked at.
+";
     page
+}
+
+/// Why a row misses its bar.
+fn reason(row: &Row) -> String {
+    let [rust, reader, _] = row.times;
+    let mut words = Vec::new();
+    if row.verdict.contains("bar") {
+        words.push(match row.family {
+            "string" | "comment" => format!(
+                "zeroing alone is {:.0} of the reader's {reader:.0} microseconds, so no reader is more than {:.2} times as fast \
+                 as the Rust here",
+                row.zeroing,
+                rust / row.zeroing
+            ),
+            _ => format!("the reader takes {reader:.1} microseconds, {:.1} of them for zeroing", row.zeroing),
+        });
+    }
+    if row.verdict.contains("growth") {
+        words.push(match row.family {
+            "descending" => "each name goes before all others, and the column of names in byte order moves one entry up for it: \
+                             V\u{b2} / 2 entries in all"
+                .to_owned(),
+            _ => format!(
+                "zeroing alone grows {:.2} times, where the workspace outgrows a cache",
+                row.zeroing_growth.unwrap_or(1.0)
+            ),
+        });
+    }
+    words.join("; ") + "."
+}
+
+#[cfg(test)]
+mod tests {
+    use super::*;
+
+    /// The page says of each bar that is missed why, and how the families without a bound grow.
+    #[test]
+    fn page_explains_what_is_missed() {
+        let row = |family, verdict: &str| Row {
+            family,
+            bytes: 65_535,
+            times: [50.0, 200.0, 300.0],
+            zeroing: 100.0,
+            growth: Some(2.5),
+            zeroing_growth: Some(3.0),
+            verdict: verdict.to_owned(),
+        };
+        let page = page(&[row("comment", "bar 0.5 MISSED, growth 2.3 MISSED"), row("reversed", "")]);
+        assert!(page.contains("zeroing alone is 100 of the reader's 200 microseconds"), "{page}");
+        assert!(page.contains("no reader is more than 0.50 times as fast"), "{page}");
+        assert!(page.contains("zeroing alone grows 3.00 times"), "{page}");
+        assert!(page.contains("- reversed: 2.50 for each doubling."), "{page}");
+    }
 }

@@ -3,7 +3,7 @@ use borrow.Author.Needs.{needs}
 use lib.ListN.{length}
 use Prim.Native.Nat.{_-_}
 use Rattle.lexer.proofs.Lefts.{next-less}
-use Rattle.lexer.proofs.Fills.{Filling, fill-start, flush-fits, fill-end, pool-fits, used-word, fill-text, put-fits, count-word, fill-token}
+use Rattle.lexer.proofs.Fills.{Filling, fill-start, flush-fits, fill-end, text-fits, pool-fits, used-word, fill-text, put-fits, count-word, fill-token}
 use Rattle.lexer.proofs.fill.Statement.{statement}
 use Rattle.lexer.proofs.fill.Tie as tie
 
@@ -22,8 +22,8 @@ piece-at-requires c κs = search needs
 first-source-requires : tie.Need-first-source-requires Inv-loop μ-loop
 first-source-requires c κs = search needs
 
-copy-part-requires : tie.Need-copy-part-requires Inv-loop μ-loop
-copy-part-requires c κs = search pool-fits
+keep-text-requires : tie.Need-keep-text-requires Inv-loop μ-loop
+keep-text-requires c κs = (search text-fits, search pool-fits)
 
 add-used : tie.Need-add-used Inv-loop μ-loop
 add-used c = record { fits = search used-word }
@@ -70,7 +70,7 @@ fill-spec =
     loop-holds
     piece-at-requires
     first-source-requires
-    copy-part-requires
+    keep-text-requires
     add-used
     flush-text-requires
     put-token-requires

@@ -4,8 +4,8 @@ use borrow.Author.Needs.{needs}
 use Rattle.lexer.proofs.lex_by.Statement.{statement}
 use Rattle.lexer.proofs.lex_by.Tie as tie
 
-find-refusal-requires : tie.Need-find-refusal-requires
-find-refusal-requires c κs = search needs
+judge-requires : tie.Need-judge-requires
+judge-requires c κs = search needs
 
 enum-known-v : tie.Need-enum-known-v
 enum-known-v c = search needs
@@ -32,7 +32,7 @@ pub lex-by-spec : {M : Type 1} → statement M
 lex-by-spec =
     tie.close
     (tie.spec
-    find-refusal-requires
+    judge-requires
     enum-known-v
     enum-told
     fill-requires

@@ -20,8 +20,8 @@ cast-put4-3 c = search needs
 put4-requires : tie.Need-put4-requires
 put4-requires c κs = search needs
 
-copy-part-requires : tie.Need-copy-part-requires
-copy-part-requires c κs = search needs
+keep-text-requires : tie.Need-keep-text-requires
+keep-text-requires c κs = search needs
 
 add-result : tie.Need-add-result
 add-result c = search needs
@@ -65,7 +65,7 @@ put-token-spec =
     cast-put4-2
     cast-put4-3
     put4-requires
-    copy-part-requires
+    keep-text-requires
     add-result
     same-length
     same-length-2

@@ -1,23 +1,77 @@
 -- `names::rank` meets its contract. Assumes nothing.
+use native.Mathlib.Omega.{arith}
 use borrow.Author.Needs.{needs}
-use Rattle.names.proofs.Places.{rank-found, rank-none, rank-past}
+use Prim.Native.Nat.{_-_}
+use Rattle.workspace.specs.Map.{variablesIn}
+use Rattle.names.proofs.Places.{Searching, search-start, search-up, search-down, search-found, search-end}
 use Rattle.names.proofs.rank.Statement.{statement}
 use Rattle.names.proofs.rank.Tie as tie
 
-place-for-requires : tie.Need-place-for-requires
-place-for-requires c κs = search needs
+abbrev Inv-loop : tie.InvT-loop
+Inv-loop ws pool n count v key lo₀ hi₀ lo hi = Searching (variablesIn n count v ws pool) v key lo hi
 
-is-same-requires : tie.Need-is-same-requires
-is-same-requires c κs = search needs
+abbrev μ-loop : tie.MeasureT-loop
+μ-loop ws pool n count v key lo₀ hi₀ lo hi = hi - lo
 
-returns : tie.Need-returns
-returns c = rank-found (c .before .before .before .before .before .before .before .args .n) (c .before .before .before .before .before .before .before .args .count) (c .before .before .before .before .before .before .before .args .v) (c .before .before .before .before .before .before .before .args .ws .now) (c .before .before .before .before .before .before .before .args .pool .now) (c .before .before .before .before .before .before .before .pre) (c .before .before .before .before .before .before .before .args .key .now) (c .before .before .before .place-for .result) (c .before .before .before .place-for .ensures) _ (c .before .before .if1 .taken) (c .before .is-same .ensures) (c .if2 .taken)
+loop-holds : tie.Need-loop-holds Inv-loop μ-loop
+loop-holds c = search search-start
 
-returns-2 : tie.Need-returns-2
-returns-2 c = rank-none (c .before .before .before .before .before .before .before .args .n) (c .before .before .before .before .before .before .before .args .count) (c .before .before .before .before .before .before .before .args .v) (c .before .before .before .before .before .before .before .args .ws .now) (c .before .before .before .before .before .before .before .args .pool .now) (c .before .before .before .before .before .before .before .pre) (c .before .before .before .before .before .before .before .args .key .now) (c .before .before .before .place-for .result) (c .before .before .before .place-for .ensures) _ (c .before .is-same .ensures) (c .if2 .left)
+sub-mid : tie.Need-sub-mid Inv-loop μ-loop
+sub-mid c = omega arith
 
-returns-3 : tie.Need-returns-3
-returns-3 c = rank-past (c .before .before .before .before .before .args .n) (c .before .before .before .before .before .args .count) (c .before .before .before .before .before .args .v) (c .before .before .before .before .before .args .ws .now) (c .before .before .before .before .before .args .pool .now) (c .before .before .before .before .before .pre) (c .before .before .before .before .before .args .key .now) (c .before .place-for .result) (c .before .place-for .ensures) (c .if1 .left)
+add-mid : tie.Need-add-mid Inv-loop μ-loop
+add-mid c = omega arith
+
+order-at-requires : tie.Need-order-at-requires Inv-loop μ-loop
+order-at-requires c κs = search needs
+
+enum-told : tie.Need-enum-told Inv-loop μ-loop
+enum-told c = search needs
+
+add-lo : tie.Need-add-lo Inv-loop μ-loop
+add-lo c = omega arith
+
+loop-less : tie.Need-loop-less Inv-loop μ-loop
+loop-less c = omega arith
+
+loop-again : tie.Need-loop-again Inv-loop μ-loop
+loop-again c = search search-up
+
+enum-told-2 : tie.Need-enum-told-2 Inv-loop μ-loop
+enum-told-2 c = search needs
+
+returns : tie.Need-returns Inv-loop μ-loop
+returns c = search search-found
+
+enum-told-3 : tie.Need-enum-told-3 Inv-loop μ-loop
+enum-told-3 c = search needs
+
+loop-less-2 : tie.Need-loop-less-2 Inv-loop μ-loop
+loop-less-2 c = omega arith
+
+loop-again-2 : tie.Need-loop-again-2 Inv-loop μ-loop
+loop-again-2 c = search search-down
+
+returns-2 : tie.Need-returns-2 Inv-loop μ-loop
+returns-2 c = search search-end
 
 pub rank-spec : {M : Type 1} → statement M
-rank-spec = tie.close (tie.spec place-for-requires is-same-requires returns returns-2 returns-3)
+rank-spec =
+    tie.close
+    (tie.spec
+    Inv-loop
+    μ-loop
+    loop-holds
+    sub-mid
+    add-mid
+    order-at-requires
+    enum-told
+    add-lo
+    loop-less
+    loop-again
+    enum-told-2
+    returns
+    enum-told-3
+    loop-less-2
+    loop-again-2
+    returns-2)

@@ -1,5 +1,6 @@
 -- `parser::is_variable_name` meets its contract. Assumes nothing.
 use native.Mathlib.Omega.{arith}
+use borrow.Author.Needs.{needs}
 use Rattle.parser.proofs.Answering.{name-more, name-stop, name-end}
 use Rattle.rules.specs.Bytes.{all}
 use mathlib.Core.Path.{_≡_, _∙_, refl}
@@ -10,19 +11,19 @@ use Rattle.parser.proofs.is_variable_name.Statement.{statement}
 use Rattle.parser.proofs.is_variable_name.Tie as tie
 
 abbrev Inv-loop : tie.InvT-loop
-Inv-loop name i₀ i = (i ≤ length name) × (all isIdentifier (drop i name) ≡ all isIdentifier name)
+Inv-loop table name i₀ i = (i ≤ length name) × (all isIdentifier (drop i name) ≡ all isIdentifier name)
 
 abbrev μ-loop : tie.MeasureT-loop
-μ-loop name i₀ i = length name - i
+μ-loop table name i₀ i = length name - i
 
 loop-holds : tie.Need-loop-holds Inv-loop μ-loop
 loop-holds c = (omega arith, refl)
 
-shared-slice-read-is-valid-identifier : tie.Need-shared-slice-read-is-valid-identifier Inv-loop μ-loop
-shared-slice-read-is-valid-identifier c = omega arith
+shared-slice-read-class-in : tie.Need-shared-slice-read-class-in Inv-loop μ-loop
+shared-slice-read-class-in c = omega arith
 
-is-valid-identifier-requires : tie.Need-is-valid-identifier-requires Inv-loop μ-loop
-is-valid-identifier-requires c κs = omega arith
+class-in-requires : tie.Need-class-in-requires Inv-loop μ-loop
+class-in-requires c κs = search needs
 
 add-i : tie.Need-add-i Inv-loop μ-loop
 add-i c = omega arith
@@ -31,10 +32,10 @@ loop-less : tie.Need-loop-less Inv-loop μ-loop
 loop-less c = omega arith
 
 loop-again : tie.Need-loop-again Inv-loop μ-loop
-loop-again c = (omega arith, name-more (c .before .before .before .before .before .before .args .name .now) (c .before .before .before .before .loop .i) (c .before .before .before .loop-test .taken) _ (c .before .is-valid-identifier .ensures) (c .if1 .taken) ∙ c .before .before .before .before .loop .inv .1)
+loop-again c = (omega arith, name-more (c .before .before .before .before .before .before .args .name .now) (c .before .before .before .before .loop .i) (c .before .before .before .loop-test .taken) _ (c .before .class-in .ensures) (c .if1 .taken) ∙ c .before .before .before .before .loop .inv .1)
 
 returns : tie.Need-returns Inv-loop μ-loop
-returns c = name-stop (c .before .before .before .before .before .before .args .name .now) (c .before .before .before .before .loop .i) (c .before .before .before .loop-test .taken) _ (c .before .is-valid-identifier .ensures) (c .if1 .left) ∙ c .before .before .before .before .loop .inv .1
+returns c = name-stop (c .before .before .before .before .before .before .args .name .now) (c .before .before .before .before .loop .i) (c .before .before .before .loop-test .taken) _ (c .before .class-in .ensures) (c .if1 .left) ∙ c .before .before .before .before .loop .inv .1
 
 returns-2 : tie.Need-returns-2 Inv-loop μ-loop
 returns-2 c = name-end (c .before .before .before .args .name .now) (c .before .loop .i) (c .loop-test .left) ∙ c .before .loop .inv .1
@@ -46,8 +47,8 @@ is-variable-name-spec =
     Inv-loop
     μ-loop
     loop-holds
-    shared-slice-read-is-valid-identifier
-    is-valid-identifier-requires
+    shared-slice-read-class-in
+    class-in-requires
     add-i
     loop-less
     loop-again

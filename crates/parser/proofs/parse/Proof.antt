@@ -1,25 +1,17 @@
 -- `parser::parse` meets its contract. Assumes nothing.
+use Rattle.scan.proofs.Classes.{is-table}
 use borrow.Author.Needs.{needs}
-use mathlib.Core.Path.{_∙_}
-use Rattle.parser.proofs.Lines.{cleared-asks, cleared-fields, cleared-parses, cleared-beyond}
 use Rattle.parser.proofs.parse.Statement.{statement}
 use Rattle.parser.proofs.parse.Tie as tie
 
-mul-zero-from : tie.Need-mul-zero-from
-mul-zero-from c = search needs
-
-zero-from-requires : tie.Need-zero-from-requires
-zero-from-requires c κs = search needs
-
-read-lines-requires : tie.Need-read-lines-requires
-read-lines-requires c κs = rw (c .before .before .before .zero-from .ensures) (cleared-asks (c .before .before .before .before .before .before .before .args .n) (c .before .before .before .before .before .before .before .args .count) (c .before .before .before .before .before .before .before .args .ws .now) (c .before .before .before .before .before .before .before .pre), cleared-fields (c .before .before .before .before .before .before .before .args .n) (c .before .before .before .before .before .before .before .args .count) (c .before .before .before .before .before .before .before .args .ws .now) (c .before .before .before .before .before .before .before .pre))
+parse-by-requires : tie.Need-parse-by-requires
+parse-by-requires c κs = (is-table, search needs)
 
 same-length : tie.Need-same-length
 same-length c = search needs
 
 returns : tie.Need-returns
-returns c = (cleared-parses (c .before .before .before .before .before .before .before .before .before .before .args .n) (c .before .before .before .before .before .before .before .before .before .before .args .count) (c .before .before .before .before .before .before .before .before .before .before .args .ws .now) (c .before .before .before .before .before .before .before .before .before .before .pre) _ (c .before .before .before .before .before .before .before .before .before .before .args .pool .now) (c .before .before .read-lines .result) (rw (c .before .before .before .before .before .before .zero-from .ensures) at (c .before .before .read-lines .ensures .0)), c .before .before .read-lines .ensures .1 ∙ rw (c .before .before .before .before .before .before .zero-from .ensures) (cleared-beyond (c .before .before .before .before .before .before .before .before .before .before .args .n) (c .before .before .before .before .before .before .before .before .before .before .args .count) (c .before .before .before .before .before .before .before .before .before .before .args .ws .now) (c .before .before .before .before .before .before .before .before .before .before .pre)))
+returns c = search needs
 
 pub parse-spec : {M : Type 1} → statement M
-parse-spec =
-    tie.close (tie.spec mul-zero-from zero-from-requires read-lines-requires same-length returns)
+parse-spec = tie.close (tie.spec parse-by-requires same-length returns)

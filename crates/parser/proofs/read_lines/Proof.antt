@@ -9,16 +9,16 @@ use Rattle.parser.proofs.read_lines.Statement.{statement}
 use Rattle.parser.proofs.read_lines.Tie as tie
 
 abbrev Inv-loop : tie.InvT-loop
-Inv-loop ws₀ pool n count s₀ ws s = Parsing n count ws₀ ws pool s × (length ws ≡ length ws₀)
+Inv-loop table ws₀ pool n count s₀ ws s = Parsing n count ws₀ ws pool s × (length ws ≡ length ws₀)
 
 abbrev μ-loop : tie.MeasureT-loop
-μ-loop ws₀ pool n count s₀ ws s = count - s .next
+μ-loop table ws₀ pool n count s₀ ws s = count - s .next
 
 loop-holds : tie.Need-loop-holds Inv-loop μ-loop
-loop-holds c = (parse-begin _ _ _ _ _ refl refl refl (c .before .before .pre .0) (c .before .before .pre .1), refl)
+loop-holds c = (parse-begin _ _ _ _ _ refl refl refl (c .before .before .pre .1) (c .before .before .pre .2), refl)
 
 line-requires : tie.Need-line-requires Inv-loop μ-loop
-line-requires c κs = (c .before .before .before .loop .inv .0 .ready, c .before .if1 .taken)
+line-requires c κs = (search needs, c .before .before .before .loop .inv .0 .ready, c .before .if1 .taken)
 
 enum-known-step : tie.Need-enum-known-step Inv-loop μ-loop
 enum-known-step c = search needs
@@ -27,13 +27,13 @@ loop-less : tie.Need-loop-less Inv-loop μ-loop
 loop-less c = let x = rw (c .before .step .given .1) at (c .before .before .before .before .before .line .ensures .0) in omega (arith, x .1, c .before .before .before .before .before .before .before .if1 .taken)
 
 loop-again : tie.Need-loop-again Inv-loop μ-loop
-loop-again c = (parse-more (c .before .before .before .before .before .before .before .before .before .before .before .before .args .n) (c .before .before .before .before .before .before .before .before .before .before .before .before .args .count) (c .before .before .before .before .before .before .before .before .before .before .before .before .args .ws .now) (c .before .before .before .before .before .before .before .before .before .loop .ws) _ (c .before .before .before .before .before .before .before .before .before .before .before .before .args .pool .now) (c .before .before .before .before .before .before .before .before .before .loop .s) (c .before .before .before .before .before .before .before .before .before .loop .inv .0) (c .before .before .before .before .before .line .ensures .1) _ (rw (c .before .step .given .1) at (c .before .before .before .before .before .line .ensures .0)), c .before .before .before .before .before .line .kept .0 ∙ c .before .before .before .before .before .before .before .before .before .loop .inv .1)
+loop-again c = (parse-more (c .before .before .before .before .before .before .before .before .before .before .before .before .args .n) (c .before .before .before .before .before .before .before .before .before .before .before .before .args .count) (c .before .before .before .before .before .before .before .before .before .before .before .before .args .ws .now) (c .before .before .before .before .before .before .before .before .before .loop .ws) _ (c .before .before .before .before .before .before .before .before .before .before .before .before .args .pool .now) (c .before .before .before .before .before .before .before .before .before .loop .s) (c .before .before .before .before .before .before .before .before .before .loop .inv .0) (c .before .before .before .before .before .line .ensures .1) _ (rw (c .before .step .given .1) at (c .before .before .before .before .before .line .ensures .0)), c .before .before .before .before .before .line .kept .1 .0 ∙ c .before .before .before .before .before .before .before .before .before .loop .inv .1)
 
 enum-known-step-2 : tie.Need-enum-known-step-2 Inv-loop μ-loop
 enum-known-step-2 c = search needs
 
 same-length : tie.Need-same-length Inv-loop μ-loop
-same-length c = c .before .before .before .before .before .line .kept .0 ∙ c .before .before .before .before .before .before .before .before .before .loop .inv .1
+same-length c = c .before .before .before .before .before .line .kept .1 .0 ∙ c .before .before .before .before .before .before .before .before .before .loop .inv .1
 
 returns : tie.Need-returns Inv-loop μ-loop
 returns c = (parse-refused (c .before .before .before .before .before .before .before .before .before .before .before .before .args .n) (c .before .before .before .before .before .before .before .before .before .before .before .before .args .count) (c .before .before .before .before .before .before .before .before .before .before .before .before .args .ws .now) (c .before .before .before .before .before .before .before .before .before .loop .ws) _ (c .before .before .before .before .before .before .before .before .before .before .before .before .args .pool .now) (c .before .before .before .before .before .before .before .before .before .loop .s) (c .before .before .before .before .before .before .before .before .before .loop .inv .0) (c .before .before .before .before .before .line .ensures .1) _ (rw (c .before .step2 .given .1) at (c .before .before .before .before .before .line .ensures .0)), c .before .before .before .before .before .line .ensures .1 ∙ c .before .before .before .before .before .before .before .before .before .loop .inv .0 .beyond)

@@ -16,23 +16,32 @@ reference-at-requires c κs = (search needs, search brace-in)
 returns : tie.Need-returns
 returns c = search dollar-brace
 
-add-t7 : tie.Need-add-t7
-add-t7 c = search needs
+add-new : tie.Need-add-new
+add-new c = search needs
+
+new-requires : tie.Need-new-requires
+new-requires c κs = search needs
 
 returns-2 : tie.Need-returns-2
-returns-2 c = search dollar-two
+returns-2 c = rw (c .new .ensures) (search dollar-two)
 
-add-t8 : tie.Need-add-t8
-add-t8 c = search needs
+add-new-2 : tie.Need-add-new-2
+add-new-2 c = search needs
+
+new-requires-2 : tie.Need-new-requires-2
+new-requires-2 c κs = search needs
 
 returns-3 : tie.Need-returns-3
-returns-3 c = search dollar-end
+returns-3 c = rw (c .new2 .ensures) (search dollar-end)
 
-add-t5 : tie.Need-add-t5
-add-t5 c = search needs
+add-new-3 : tie.Need-add-new-3
+add-new-3 c = search needs
+
+new-requires-3 : tie.Need-new-requires-3
+new-requires-3 c κs = search needs
 
 returns-4 : tie.Need-returns-4
-returns-4 c = search dollar-other
+returns-4 c = rw (c .new3 .ensures) (search dollar-other)
 
 pub dollar-at-spec : {M : Type 1} → statement M
 dollar-at-spec =
@@ -42,9 +51,12 @@ dollar-at-spec =
     class-by-requires
     reference-at-requires
     returns
-    add-t7
+    add-new
+    new-requires
     returns-2
-    add-t8
+    add-new-2
+    new-requires-2
     returns-3
-    add-t5
+    add-new-3
+    new-requires-3
     returns-4)

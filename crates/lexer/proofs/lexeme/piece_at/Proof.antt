@@ -4,14 +4,17 @@ use borrow.Author.Needs.{needs}
 use Rattle.lexer.proofs.lexeme.piece_at.Statement.{statement}
 use Rattle.lexer.proofs.lexeme.piece_at.Tie as tie
 
-text-end-requires : tie.Need-text-end-requires
-text-end-requires c κs = search needs
+classes-end-requires : tie.Need-classes-end-requires
+classes-end-requires c κs = search needs
 
-sub-t6 : tie.Need-sub-t6
-sub-t6 c = search needs
+sub-new : tie.Need-sub-new
+sub-new c = search needs
+
+new-requires : tie.Need-new-requires
+new-requires c κs = search needs
 
 returns : tie.Need-returns
-returns c = search reads-run
+returns c = rw (c .new .ensures) (search reads-run)
 
 lexeme-at-requires : tie.Need-lexeme-at-requires
 lexeme-at-requires c κs = search needs
@@ -20,4 +23,12 @@ returns-2 : tie.Need-returns-2
 returns-2 c = search reads-one
 
 pub piece-at-spec : {M : Type 1} → statement M
-piece-at-spec = tie.close (tie.spec text-end-requires sub-t6 returns lexeme-at-requires returns-2)
+piece-at-spec =
+    tie.close
+    (tie.spec
+    classes-end-requires
+    sub-new
+    new-requires
+    returns
+    lexeme-at-requires
+    returns-2)

@@ -16,26 +16,35 @@ name-end-requires c κs = search needs
 class-by-requires : tie.Need-class-by-requires
 class-by-requires c κs = search needs
 
-add-t8 : tie.Need-add-t8
-add-t8 c = search needs
+add-new : tie.Need-add-new
+add-new c = search needs
 
-add-t9 : tie.Need-add-t9
-add-t9 c = search needs
+add-new-2 : tie.Need-add-new-2
+add-new-2 c = search needs
 
-sub-t10 : tie.Need-sub-t10
-sub-t10 c = search needs
+sub-new : tie.Need-sub-new
+sub-new c = search needs
 
-add-t11 : tie.Need-add-t11
-add-t11 c = let h : c .before .before .name-end .result ≤ length (c .before .before .before .before .args .text .now) = search name-inside in omega arith
+add-new-3 : tie.Need-add-new-3
+add-new-3 c = let h : c .before .before .name-end .result ≤ length (c .before .before .before .before .args .text .now) = search name-inside in omega arith
+
+new-requires : tie.Need-new-requires
+new-requires c κs = search needs
 
 returns : tie.Need-returns
-returns c = search reference-closed
+returns c = rw (c .new .ensures) (search reference-closed)
+
+new-requires-2 : tie.Need-new-requires-2
+new-requires-2 c κs = search needs
 
 returns-2 : tie.Need-returns-2
-returns-2 c = search reference-open
+returns-2 c = rw (c .new2 .ensures) (search reference-open)
+
+new-requires-3 : tie.Need-new-requires-3
+new-requires-3 c κs = search needs
 
 returns-3 : tie.Need-returns-3
-returns-3 c = search reference-bad
+returns-3 c = rw (c .new3 .ensures) (search reference-bad)
 
 pub reference-at-spec : {M : Type 1} → statement M
 reference-at-spec =
@@ -44,10 +53,13 @@ reference-at-spec =
     add-name-end
     name-end-requires
     class-by-requires
-    add-t8
-    add-t9
-    sub-t10
-    add-t11
+    add-new
+    add-new-2
+    sub-new
+    add-new-3
+    new-requires
     returns
+    new-requires-2
     returns-2
+    new-requires-3
     returns-3)
