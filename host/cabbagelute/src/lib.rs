@@ -16,6 +16,9 @@
 //! # Ok::<(), cabbagelute::ParseError>(())
 //! ```
 //!
+//! Beyond that API, [`PkgConfig::requires`] gives the packages that `Requires` and `Requires.private` name, with the versions they
+//! ask for, and [`compare_versions`] orders versions; both are done by the proved archive too.
+//!
 //! Callers who want the reader's own number, detail and records use [`raw`].
 
 mod calls;
@@ -23,7 +26,9 @@ mod discover;
 mod error;
 mod pkg_config;
 pub mod raw;
+mod requires;
 
 pub use crate::discover::{DiscoverError, PkgConfigEnv, discover};
 pub use crate::error::{LexError, ParseError, WhileResolving};
 pub use crate::pkg_config::PkgConfig;
+pub use crate::requires::{Operator, Package, RequiresError, RequiresField, compare_versions, version_meets};

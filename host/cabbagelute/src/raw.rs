@@ -1,8 +1,8 @@
 //! The reader as it is: lent buffers in, a number, a detail and records out.
 //!
-//! [`read`] and [`read_in`] are the two calls of `include/cabbagelute.h`, which says what the numbers mean and what is written
-//! where. [`outcome`] and [`outcome_in`] lend the detail themselves and give it back with names to its numbers. [`records`]
-//! walks over the records of an accepted text.
+//! [`read`], [`read_in`], [`packages`], [`compare_versions`] and [`version_meets`] are the calls of `include/cabbagelute.h`, which
+//! says what the numbers mean and what is written where. [`outcome`] and [`outcome_in`] lend the detail themselves and give it back
+//! with names to its numbers. [`records`] walks over the records of an accepted text, or over the items that [`packages`] writes.
 //!
 //! ```
 //! use cabbagelute::raw;
@@ -15,7 +15,7 @@
 //! assert_eq!(outcome.detail.first.of(&pool), Some(&b"lib"[..]));
 //! ```
 
-pub use crate::calls::{read, read_in};
+pub use crate::calls::{compare_versions, packages, read, read_in, version_meets};
 
 /// The longest text that is read. Above it the number is 1.
 pub const LONGEST_TEXT: usize = 65_535;
@@ -25,6 +25,9 @@ pub const LONGEST_WITHOUT_WORKSPACE: usize = 1_360;
 
 /// How many bytes a detail takes. Below it the number is 19.
 pub const DETAIL_BYTES: usize = 48;
+
+/// How many bytes the detail of [`packages`] takes. Below it the number is 19.
+pub const PACKAGES_DETAIL_BYTES: usize = 24;
 
 /// How many entries of workspace a text of so many bytes needs. Below it the number is 2.
 pub const fn workspace_entries(text_bytes: usize) -> usize {
@@ -72,16 +75,8 @@ impl Name {
 impl Outcome {
     /// Puts the number that a call gave and the detail that it wrote together.
     pub fn new(number: u32, detail: &[u8; DETAIL_BYTES]) -> Self {
-        let mut numbers = [0; DETAIL_BYTES / 8];
-        let mut rest = detail.as_slice();
-        for number in &mut numbers {
-            if let Some((bytes, after)) = rest.split_first_chunk() {
-                *number = u64::from_le_bytes(*bytes);
-                rest = after;
-            }
-        }
         // The first says the number again.
-        let [_, value, first_place, first_length, second_place, second_length] = numbers;
+        let [_, value, first_place, first_length, second_place, second_length] = numbers(detail);
         Outcome {
             number,
             detail: Detail {
@@ -91,6 +86,19 @@ impl Outcome {
             },
         }
     }
+}
+
+/// The 8-byte little-endian numbers that a detail begins with.
+pub(crate) fn numbers<const COUNT: usize>(detail: &[u8]) -> [u64; COUNT] {
+    let mut numbers = [0; COUNT];
+    let mut rest = detail;
+    for number in &mut numbers {
+        if let Some((bytes, after)) = rest.split_first_chunk() {
+            *number = u64::from_le_bytes(*bytes);
+            rest = after;
+        }
+    }
+    numbers
 }
 
 /// As [`read`], with the detail in words.
@@ -115,7 +123,7 @@ pub fn records(bytes: &[u8]) -> Records<'_> {
 /// A record: its kind and its payload.
 #[derive(Clone, Copy, Debug, PartialEq, Eq)]
 pub struct Record<'a> {
-    /// 1 to 10 for the fields, 11 for an argument.
+    /// 1 to 10 for the fields, 11 for an argument; of items 12 for field and operator, 13 for the name, 14 for the version.
     pub kind: u16,
     /// The value or the argument; for the kinds 8 to 10, how many arguments follow, in 4 little-endian bytes.
     pub payload: &'a [u8],
