@@ -2,10 +2,10 @@
 use Prim.Native.Nat.{ℕ, zero, suc, _+_, _*_, _-_, _≤_, _<_}
 use mathlib.Core.Path.{_≡_, refl, sym, _∙_, ap, ap₂}
 use mathlib.Core.Bool.{Bool, true, false}
-use mathlib.Core.List.{List, [], _∷_, _++_, map}
+use mathlib.Core.List.{List, [], _∷_, _++_, map, append-assoc, append-nil}
 use native.Mathlib.Omega.{arith}
 use native.Mathlib.Decide.{decLt}
-use lib.ListN.{length, getD, take, drop, set, length-set, length-append, length-drop}
+use lib.ListN.{length, getD, take, drop, set, length-set, length-append, length-drop, drop-of-length-le}
 use lib.Seq.{drop-set-lt, getD-set-same, getD-set-other, take-append-le, drop-append-le, take-at, drop-at, length-take-le, drop-drop, take-take, take-add}
 use Rattle.rules.specs.Bytes.{pick}
 use Rattle.rules.proofs.BytesLaws.{false-true}
@@ -21,44 +21,67 @@ use Rattle.names.specs.declared.Insertion.the-variants.{Inserted, Duplic
 use Rattle.names.specs.Store.{placeFor, All, Searchable, Insertable, Inserts, stored, newOne, isAssigned}
 use Rattle.names.proofs.Places.{place-insert, place-le, table-length, text-pooled, assigned-by, assigned-past}
 
--- those from i on have gone one up
-pub record Shifting (n v p : ℕ) (ws₀ ws : List ℕ) (i : ℕ) : Type 0 where
-  pub low : p ≤ i
-  pub high : i ≤ v
-  pub room : 4 * n + v < length ws₀
-  pub long : length ws ≡ length ws₀
-  pub moved : ws ≡ puts ws₀ (4 * n + i + 1) (take (v - i) (drop (4 * n + i) ws₀))
+-- those from i on came from one below
+pub record Raising (part₀ part : List ℕ) (i : ℕ) : Type 0 where
+  pub low : 1 ≤ i
+  pub high : i ≤ length part₀
+  pub long : length part ≡ length part₀
+  pub moved : part ≡ puts part₀ i (take (length part₀ - i) (drop (i - 1) part₀))
 
-pub shift-start : (n v p : ℕ) (ws : List ℕ) → p ≤ v → 4 * n + v < length ws → Shifting n v p ws ws v
-shift-start n v p ws h r = let z : v - v ≡ 0 = omega arith in record { low = h; high = omega arith; room = r; long = refl; moved = rw z }
+pub raise-start : (part : List ℕ) → 1 ≤ length part → Raising part part (length part)
+raise-start part h = let z : length part - length part ≡ 0 = omega arith in record { low = h; high = omega arith; long = refl; moved = rw z }
 
 -- a store below a run of stores is a longer run
 store-below : (l : List ℕ) (i x : ℕ) (us : List ℕ) → set (puts l (i + 1) us) i x ≡ puts l i (x ∷ us)
 store-below l i x us = sym (puts-comm l i (i + 1) (x ∷ []) us (omega arith))
 
-module _ (n v p : ℕ) (ws₀ ws : List ℕ) (i : ℕ) (S : Shifting n v p ws₀ ws i) where
-  pub shift-more : (j : ℕ) → p < i → j ≡ i - 1 → Shifting n v p ws₀ (set ws (4 * n + j + 1) (getD ws (4 * n + j) 0)) j
-  shift-more j h q =
+module _ (part₀ part : List ℕ) (i : ℕ) (S : Raising part₀ part i) where
+  pub raise-more : (j : ℕ) → 1 < i → j ≡ i - 1 → Raising part₀ (set part j (getD part (j - 1) 0)) j
+  raise-more j h q =
       let e : i ≡ j + 1 = omega arith in
-      let d : 4 * n + i ≡ 4 * n + j + 1 = omega arith in
-      let m : v - j ≡ suc (v - i) = omega (arith, S .high) in
-      let a = 4 * n + j in
-      let us = take (v - i) (drop (4 * n + i) ws₀) in
-      let x : getD ws a 0 ≡ getD ws₀ a 0 = ap (λ (l : List ℕ). getD l a 0) (S .moved) ∙ getD-puts-below ws₀ (4 * n + i + 1) us a 0 (omega arith) in
-      let r : take (v - j) (drop a ws₀) ≡ getD ws₀ a 0 ∷ us = rw (m, rest-at ws₀ a (omega (arith, S .room, S .high)), d) in
-      let b : ws ≡ puts ws₀ (a + 1 + 1) us = S .moved ∙ ap (λ (k : ℕ). puts ws₀ (k + 1) us) d in
+      let d : i - 1 ≡ j - 1 + 1 = omega arith in
+      let m : length part₀ - j ≡ suc (length part₀ - i) = omega (arith, S .high) in
+      let k = j - 1 in
+      let us = take (length part₀ - i) (drop (i - 1) part₀) in
+      let x : getD part k 0 ≡ getD part₀ k 0 = ap (λ (l : List ℕ). getD l k 0) (S .moved) ∙ getD-puts-below part₀ i us k 0 (omega arith) in
+      let r : take (length part₀ - j) (drop k part₀) ≡ getD part₀ k 0 ∷ us = rw (m, rest-at part₀ k (omega (arith, S .high)), d) in
+      let b : part ≡ puts part₀ (j + 1) us = S .moved ∙ ap (λ (n : ℕ). puts part₀ n us) e in
       record {
         low = omega arith;
         high = omega (arith, S .high);
-        room = S .room;
-        long = length-set ws (a + 1) (getD ws a 0) ∙ S .long;
-        moved = ap₂ (λ (l : List ℕ) (y : ℕ). set l (a + 1) y) b x ∙ store-below ws₀ (a + 1) (getD ws₀ a 0) us ∙ ap (puts ws₀ (a + 1)) (sym r);
+        long = length-set part j (getD part k 0) ∙ S .long;
+        moved = ap₂ (λ (l : List ℕ) (y : ℕ). set l j y) b x ∙ store-below part₀ j (getD part₀ k 0) us ∙ ap (puts part₀ j) (sym r);
       }
 
-  pub shift-end : (key : ℕ) → i ≤ p → set ws (4 * n + p) key ≡ puts ws₀ (4 * n + p) (key ∷ take (v - p) (drop (4 * n + p) ws₀))
-  shift-end key h =
-      let e : i ≡ p = omega (arith, S .low) in
-      ap (λ (l : List ℕ). set l (4 * n + p) key) (rw e at (S .moved)) ∙ store-below ws₀ (4 * n + p) key (take (v - p) (drop (4 * n + p) ws₀))
+  pub raise-end : i ≤ 1 → part ≡ puts part₀ 1 (take (length part₀ - 1) part₀)
+  raise-end h = let e : i ≡ 1 = omega (arith, S .low) in S .moved ∙ ap (λ (n : ℕ). puts part₀ n (take (length part₀ - n) (drop (n - 1) part₀))) e
+
+-- a part with its entries one up, put back and with a key in front
+pub raised : (ws last : List ℕ) (a k m key : ℕ) → k ≡ m + 1 → a + k ≤ length ws
+    → last ≡ puts (take k (drop a ws)) 1 (take (length (take k (drop a ws)) - 1) (take k (drop a ws)))
+    → set (take a ws ++ (last ++ drop k (drop a ws))) a key ≡ puts ws a (key ∷ take m (drop a ws))
+raised ws last a k m key e h f =
+    let mid = take k (drop a ws) in
+    let us = take m (drop a ws) in
+    let d : length (drop a ws) ≡ length ws - a = length-drop a ws in
+    let l : length mid ≡ k = length-take-le k (drop a ws) (omega (arith, d)) in
+    let lu : length us ≡ m = length-take-le m (drop a ws) (omega (arith, d)) in
+    let q : length mid - 1 ≡ m = omega (arith, l) in
+    let u : take m mid ≡ us = take-take m k (drop a ws) (omega arith) in
+    let t : take 1 mid ≡ take 1 (drop a ws) = take-take 1 k (drop a ws) (omega arith) in
+    let g : last ≡ puts mid 1 us = f ∙ ap (λ (n : ℕ). puts mid 1 (take n mid)) q ∙ ap (puts mid 1) u in
+    let b : length mid ≤ 1 + length us = omega (arith, l, lu) in
+    let z : drop (1 + length us) mid ≡ [] = drop-of-length-le mid b in
+    let i : last ≡ take 1 (drop a ws) ++ us =
+    g ∙ puts-eq mid 1 us (omega (arith, l, lu)) ∙ ap₂ (λ (x y : List ℕ). x ++ us ++ y) t z ∙ append-nil (take 1 (drop a ws) ++ us) in
+    let s : a + k ≡ a + 1 + length us = omega (arith, lu) in
+    let r : drop k (drop a ws) ≡ drop (a + 1 + length us) ws = drop-drop k a ws ∙ ap (λ (n : ℕ). drop n ws) s in
+    let w : take a ws ++ (last ++ drop k (drop a ws)) ≡ puts ws (a + 1) us =
+    ap₂ (λ (x y : List ℕ). take a ws ++ (x ++ y)) i r
+    ∙ sym (append-assoc (take a ws) (take 1 (drop a ws) ++ us) (drop (a + 1 + length us) ws))
+    ∙ ap (λ (x : List ℕ). x ++ drop (a + 1 + length us) ws) (sym (append-assoc (take a ws) (take 1 (drop a ws)) us) ∙ ap (λ (x : List ℕ). x ++ us) (sym (take-add a 1 ws)))
+    ∙ sym (puts-eq ws (a + 1) us (omega (arith, lu))) in
+    ap (λ (x : List ℕ). set x a key) w ∙ store-below ws a key us
 
 drop-take : (p k : ℕ) (l : List ℕ) → p ≤ length l → drop p (take (p + k) l) ≡ take k (drop p l)
 drop-take p k l h = ap (drop p) (take-add p k l) ∙ drop-at (take p l) (take k (drop p l)) p (length-take-le p l h)

@@ -110,17 +110,27 @@ pub fn rank(ws: &[u32], pool: &[u8], n: usize, count: usize, v: usize, key: &[u8
     v
 }
 
+// Each entry goes one up, over the next one. A loop of its own on a slice of its own: so the compiler makes one move of memory of it.
+fn raise(part: &mut [u32])
+    requires { ⌜ 1 ≤ length (now part) ⌝ }
+    ensures { λ r. ⌜ now (part .exit) ≡ puts (now (part .entry)) 1 (take (length (now (part .entry)) - 1) (now (part .entry))) ⌝ }
+{
+    let mut i = part.len();
+    while 1 < i {
+        i -= 1;
+        part[i] = part[i - 1];
+    }
+}
+
 // Key goes to place p of the v sorted ones: those from there on go one up, the last one first.
 fn shift(ws: &mut [u32], n: usize, v: usize, p: usize, key: usize)
     requires { ⌜ (4 * n + v < length (now ws)) × (p ≤ v) × (key ≤ 65535) ⌝ }
     ensures { λ r. ⌜ now (ws .exit) ≡ puts (now (ws .entry)) (4 * n + p) (key ∷ take (v - p) (drop (4 * n + p) (now (ws .entry)))) ⌝ }
 {
-    let mut i = v;
-    while p < i {
-        i -= 1;
-        ws[4 * n + i + 1] = ws[4 * n + i];
-    }
-    ws[4 * n + p] = key as u32;
+    let at = 4 * n + p;
+    let end = 4 * n + v + 1;
+    raise(&mut ws[at..end]);
+    ws[at] = key as u32;
 }
 
 // Whether the name of token j is that of the variable at p, where it belongs.

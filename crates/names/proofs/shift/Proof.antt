@@ -1,99 +1,82 @@
 -- `names::shift` meets its contract. Assumes nothing.
+use borrow.Author.Needs.{needs}
+use Prim.Native.Nat.{_+_, _*_, _-_, _≤_}
+use mathlib.Core.Path.{_≡_}
+use lib.ListN.{length}
 use native.Mathlib.Omega.{arith}
-use lib.ListN.{length-set}
-use Rattle.names.proofs.Storing.{Shifting, shift-start, shift-more, shift-end}
+use Rattle.names.proofs.Storing.{raised}
 use Rattle.names.proofs.shift.Statement.{statement}
 use Rattle.names.proofs.shift.Tie as tie
 
-abbrev Inv-loop : tie.InvT-loop
-Inv-loop ws₀ n v p key i₀ ws i = Shifting n v p ws₀ ws i
+mul-at : tie.Need-mul-at
+mul-at c = search needs
 
-abbrev μ-loop : tie.MeasureT-loop
-μ-loop ws₀ n v p key i₀ ws i = i
+add-at : tie.Need-add-at
+add-at c = search needs
 
-loop-holds : tie.Need-loop-holds Inv-loop μ-loop
-loop-holds c = search shift-start
+mul-end : tie.Need-mul-end
+mul-end c = search needs
 
-sub-i : tie.Need-sub-i Inv-loop μ-loop
-sub-i c = omega arith
+add-end : tie.Need-add-end
+add-end c = search needs
 
-mul-ws : tie.Need-mul-ws Inv-loop μ-loop
-mul-ws c = omega arith
+add-end-2 : tie.Need-add-end-2
+add-end-2 c = search needs
 
-add-ws : tie.Need-add-ws Inv-loop μ-loop
-add-ws c = omega arith
+mul-raise : tie.Need-mul-raise
+mul-raise c = search needs
 
-mul-ws-2 : tie.Need-mul-ws-2 Inv-loop μ-loop
-mul-ws-2 c = omega arith
+sub-raise : tie.Need-sub-raise
+sub-raise c = search needs
 
-slice-read-ws : tie.Need-slice-read-ws Inv-loop μ-loop
-slice-read-ws c = omega arith
+part-raise-start : tie.Need-part-raise-start
+part-raise-start c = search needs
 
-mul-ws-3 : tie.Need-mul-ws-3 Inv-loop μ-loop
-mul-ws-3 c = omega arith
+part-raise-end : tie.Need-part-raise-end
+part-raise-end c = search needs
 
-add-ws-2 : tie.Need-add-ws-2 Inv-loop μ-loop
-add-ws-2 c = omega arith
+raise-requires : tie.Need-raise-requires
+raise-requires c κs = search needs
 
-add-ws-3 : tie.Need-add-ws-3 Inv-loop μ-loop
-add-ws-3 c = omega arith
+cast-ws : tie.Need-cast-ws
+cast-ws c = search needs
 
-mul-ws-4 : tie.Need-mul-ws-4 Inv-loop μ-loop
-mul-ws-4 c = omega arith
+mul-ws : tie.Need-mul-ws
+mul-ws c = search needs
 
-slice-write-ws : tie.Need-slice-write-ws Inv-loop μ-loop
-slice-write-ws c = omega arith
+slice-write-ws : tie.Need-slice-write-ws
+slice-write-ws c = search needs
 
-loop-less : tie.Need-loop-less Inv-loop μ-loop
-loop-less c = omega arith
+same-length : tie.Need-same-length
+same-length c = search needs
 
-loop-again : tie.Need-loop-again Inv-loop μ-loop
-loop-again c = search shift-more
-
-cast-ws : tie.Need-cast-ws Inv-loop μ-loop
-cast-ws c = omega arith
-
-mul-ws-5 : tie.Need-mul-ws-5 Inv-loop μ-loop
-mul-ws-5 c = omega arith
-
-add-ws-4 : tie.Need-add-ws-4 Inv-loop μ-loop
-add-ws-4 c = omega arith
-
-mul-ws-6 : tie.Need-mul-ws-6 Inv-loop μ-loop
-mul-ws-6 c = omega arith
-
-slice-write-ws-2 : tie.Need-slice-write-ws-2 Inv-loop μ-loop
-slice-write-ws-2 c = omega arith
-
-same-length : tie.Need-same-length Inv-loop μ-loop
-same-length c = simp length-set (c .before .loop .inv .long)
-
-returns : tie.Need-returns Inv-loop μ-loop
-returns c = search shift-end
+returns : tie.Need-returns
+returns c =
+    let s = c .before .before .before .before .before in
+    let n = 4 * s .args .n in
+    let at = n + s .args .p in
+    let size = n + s .args .v + 1 - at in
+    let m = s .args .v - s .args .p in
+    let e : size ≡ m + 1 = omega arith in
+    let h : at + size ≤ length (s .args .ws .now) = omega arith in
+    raised (s .args .ws .now) (c .before .before .raise .last .0) at size m (s .args .key) e h (c .before .before .raise .ensures)
 
 pub shift-spec : {M : Type 1} → statement M
 shift-spec =
     tie.close
     (tie.spec
-    Inv-loop
-    μ-loop
-    loop-holds
-    sub-i
-    mul-ws
-    add-ws
-    mul-ws-2
-    slice-read-ws
-    mul-ws-3
-    add-ws-2
-    add-ws-3
-    mul-ws-4
-    slice-write-ws
-    loop-less
-    loop-again
+    mul-at
+    add-at
+    mul-end
+    add-end
+    add-end-2
+    mul-raise
+    sub-raise
+    part-raise-start
+    part-raise-end
+    raise-requires
     cast-ws
-    mul-ws-5
-    add-ws-4
-    mul-ws-6
-    slice-write-ws-2
+    mul-ws
+    slice-write-ws
     same-length
     returns)
