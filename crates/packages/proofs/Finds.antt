@@ -1,6 +1,6 @@
 -- Laws of the item at a place: each answer of the code is what the definition finds there. Assumes nothing.
-use Prim.Native.Nat.{ℕ, suc, _+_, _-_, _<_, _≤_}
-use mathlib.Core.Path.{_≡_, refl, ap, sym, _∙_, subst}
+use Prim.Native.Nat.{ℕ, _+_, _-_, _<_, _≤_}
+use mathlib.Core.Path.{_≡_, refl, ap, sym, _∙_}
 use mathlib.Core.Bool.{Bool, true, false}
 use mathlib.Core.List.{List, [], _∷_}
 use native.Mathlib.Omega.{arith}
@@ -9,9 +9,8 @@ use lib.ListN.{length, take, drop, length-drop}
 use lib.Seq.{drop-drop}
 use borrow.Author.Tests.{eq-eqb, ne-eqb}
 use Rattle.rules.specs.Bytes.{pick, is, run}
-use Rattle.rules.specs.Packages.{isBlank, isSeparator, isWord, skip, word, startsWithEquals, operatorOf, operatorSize, First, nothing, malformed, item, withVersion, withOperator, firstItem}
-use Rattle.rules.proofs.PackagesLaws.{pick-case, length-skip}
-use Rattle.packages.specs.declared.cut.Place.{Place}
+use Rattle.rules.specs.Packages.{isBlank, isSeparator, isWord, skip, word, startsWithEquals, operatorOf, operatorSize, nothing, item, withVersion, withOperator, firstItem}
+use Rattle.rules.proofs.PackagesLaws.{pick-case}
 use Rattle.packages.specs.declared.cut.Found.{Found}
 use Rattle.packages.specs.declared.cut.Found.the-variants.{Nothing, Malformed, Item}
 use Rattle.packages.specs.Cuts.{Gives}
