@@ -8,7 +8,7 @@ use native.Mathlib.Omega.{arith}
 use lib.Dec.{ltb}
 use lib.ListN.{length, length-append}
 use borrow.Author.Tests.{lt-ltb, le-ltb}
-use Rattle.rules.specs.Bytes.{pick, overwrite}
+use Rattle.rules.specs.Bytes.{pick}
 use Rattle.rules.specs.Listing.{linesOfRecords}
 use Rattle.rules.specs.Packages as Rules
 use Rattle.rules.specs.Packages.{Item, Items, items, malformedAt, itemsOf, valueOf, itemsRecords, Packaged, written, packaged, packages}

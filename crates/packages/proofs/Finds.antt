@@ -1,17 +1,16 @@
 -- Laws of the item at a place: each answer of the code is what the definition finds there. Assumes nothing.
-use Prim.Native.Nat.{ℕ, suc, _+_, _-_, _<_, _≤_}
-use mathlib.Core.Path.{_≡_, refl, ap, sym, _∙_, subst}
+use Prim.Native.Nat.{ℕ, _+_, _-_, _<_, _≤_}
+use mathlib.Core.Path.{_≡_, refl, ap, sym, _∙_}
 use mathlib.Core.Bool.{Bool, true, false}
 use mathlib.Core.List.{List, [], _∷_}
 use native.Mathlib.Omega.{arith}
 use lib.Dec.{eqb, leb}
 use lib.ListN.{length, take, drop, length-drop}
 use lib.Seq.{drop-drop}
-use borrow.Author.Tests.{eq-eqb, ne-eqb, le-leb, lt-leb}
+use borrow.Author.Tests.{eq-eqb, ne-eqb}
 use Rattle.rules.specs.Bytes.{pick, is, run}
-use Rattle.rules.specs.Packages.{isBlank, isSeparator, isWord, skip, word, startsWithEquals, operatorOf, operatorSize, First, nothing, malformed, item, withVersion, withOperator, firstItem}
-use Rattle.rules.proofs.PackagesLaws.{pick-case, length-skip}
-use Rattle.packages.specs.declared.cut.Place.{Place}
+use Rattle.rules.specs.Packages.{isBlank, isSeparator, isWord, skip, word, startsWithEquals, operatorOf, operatorSize, nothing, item, withVersion, withOperator, firstItem}
+use Rattle.rules.proofs.PackagesLaws.{pick-case}
 use Rattle.packages.specs.declared.cut.Found.{Found}
 use Rattle.packages.specs.declared.cut.Found.the-variants.{Nothing, Malformed, Item}
 use Rattle.packages.specs.Cuts.{Gives}
@@ -86,27 +85,18 @@ module _ (value : List ℕ) where
     unfolding withOperator pick
     operator-alone n e = rw (signed, ne-eqb operator 0 n, eq-eqb operator 7 e) (record { is-first = refl; inside = tt })
 
-    module _ (n : operator ≡ 0 → ⊥) (m : operator ≡ 7 → ⊥) where
-      pub sign-fits : sign + operatorSize operator ≤ length value
+    module _ (n : operator ≡ 0 → ⊥) (m : operator ≡ 7 → ⊥) (k : ℕ) (z : k ≡ operatorSize operator) where
+      pub sign-fits : sign + k ≤ length value
       sign-fits =
           let o = operator-there (drop sign value) (λ e. n (q ∙ e)) (λ e. m (q ∙ e)) in
           let s : operatorSize operator ≡ operatorSize (operatorOf (drop sign value)) = ap operatorSize q in
-          omega (arith, o, s, length-drop sign value, p, run-inside isBlank value (name + size) named)
+          omega (arith, z, o, s, length-drop sign value, p, run-inside isBlank value (name + size) named)
 
-      pub operator-then : (k : ℕ) (r : Found) → operatorSize operator ≡ k → Gives value (withVersion called operator (skip isBlank (drop (sign + k) value))) r
-          → Gives value (withOperator called (drop (name + size) value)) r
+      pub operator-then : (r : Found) → Gives value (withVersion called operator (skip isBlank (drop (sign + k) value))) r → Gives value (withOperator called (drop (name + size) value)) r
       unfolding withOperator pick
-      operator-then k r e g =
-          let d : drop (operatorSize operator) (drop sign value) ≡ drop (sign + k) value = drop-drop (operatorSize operator) sign value ∙ ap (λ (j : ℕ). drop (sign + j) value) e in
+      operator-then r g =
+          let d : drop (operatorSize operator) (drop sign value) ≡ drop (sign + k) value = drop-drop (operatorSize operator) sign value ∙ ap (λ (j : ℕ). drop (sign + j) value) (sym z) in
           rw (signed, ne-eqb operator 0 n, ne-eqb operator 7 m, skipped isBlank (name + size) sign p, d) g
-
-      pub size-one : operator ≤ 3 → operatorSize operator ≡ 1
-      unfolding operatorSize pick
-      size-one h = rw (le-leb operator 3 h) refl
-
-      pub size-two : 3 < operator → operatorSize operator ≡ 2
-      unfolding operatorSize pick
-      size-two h = rw (lt-leb operator 3 h) refl
 
   module _ (at name : ℕ) (inside : at ≤ length value) (p : name ≡ at + run isSeparator (drop at value)) where
     left : length (skip isSeparator (drop at value)) ≡ length value - name

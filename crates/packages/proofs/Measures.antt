@@ -1,12 +1,12 @@
 -- A walk over the items of a value: what one item takes, and what the items need so far. Assumes nothing.
 use Prim.Native.Nat.{ℕ, _+_, _*_, _-_, _<_, _≤_}
 use mathlib.Core.Path.{_≡_, refl, ap, sym, _∙_}
-use mathlib.Core.List.{List, [], _∷_}
+use mathlib.Core.List.{List, []}
 use native.Mathlib.Nat.{zero-add, add-zero}
 use native.Mathlib.Omega.{arith}
 use lib.ListN.{length, take, drop, length-drop}
 use Rattle.rules.specs.Variables.{limit}
-use Rattle.rules.specs.Packages.{First, nothing, malformed, item, firstItem, Items, items, malformedAt, after, itemsOf}
+use Rattle.rules.specs.Packages.{nothing, malformed, item, firstItem, Items, items, malformedAt, after, itemsOf}
 use Rattle.rules.proofs.PackagesLaws.{Cut, cut-of, items-nothing, items-malformed, items-item}
 use Rattle.scan.proofs.Lists.{length-part}
 use Rattle.packages.specs.declared.cut.Place.{Place}

@@ -1,10 +1,10 @@
 -- Laws of runs of bytes, and of an operator, at a place of a value. Assumes nothing.
 use Prim.Native.Nat.{ℕ, suc, _+_, _<_, _≤_}
-use mathlib.Core.Path.{_≡_, refl, ap, sym, _∙_}
+use mathlib.Core.Path.{_≡_, refl}
 use mathlib.Core.Bool.{Bool, true, false}
-use mathlib.Core.List.{List, [], _∷_}
+use mathlib.Core.List.{List}
 use native.Mathlib.Omega.{arith}
-use lib.ListN.{length, getD, take, drop, length-drop, drop-of-length-le}
+use lib.ListN.{length, getD, drop, length-drop, drop-of-length-le}
 use Rattle.rules.specs.Bytes.{run, pick, is}
 use Rattle.rules.specs.Packages.{startsWithEquals, operatorOf}
 use Rattle.rules.proofs.LexingLaws.{run-le}

@@ -10,7 +10,7 @@ use Rattle.rules.proofs.PackagesLaws.{item-need}
 use Rattle.scan.specs.Stores.{puts}
 use Rattle.scan.proofs.Stores.{length-puts}
 use Rattle.packages.specs.declared.cut.Place.{Place}
-use Rattle.packages.specs.Cuts.{itemAt, Inside}
+use Rattle.packages.specs.Cuts.{itemAt}
 use Rattle.packages.specs.Items.{recordsOf, Fitting}
 use Rattle.packages.proofs.Measures.{Took}
 use Rattle.packages.proofs.Puts.{two-stored}

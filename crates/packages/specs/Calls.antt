@@ -1,5 +1,5 @@
 -- The call's answers, by document 02's cases. Assumes nothing.
-use Prim.Native.Nat.{ℕ, _+_}
+use Prim.Native.Nat.{_+_}
 use Rattle.rules.specs.Packages as Rules
 use Rattle.rules.specs.Packages.{Items, items, malformedAt}
 use Rattle.packages.specs.declared.Answer.{Answer}

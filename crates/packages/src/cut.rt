@@ -3,7 +3,7 @@ ghost use mathlib.Core.Path.{_≡_};
 ghost use Prim.Native.Nat.{_+_, _≤_};
 ghost use lib.ListN.{length, take, drop};
 ghost use Rattle.rules.specs.Bytes.{run};
-ghost use Rattle.rules.specs.Packages.{isBlank, isSeparator, isWord, startsWithEquals, operatorOf, skip, withVersion, withOperator, firstItem};
+ghost use Rattle.rules.specs.Packages.{isBlank, isSeparator, isWord, startsWithEquals, operatorOf, operatorSize, skip, withVersion, withOperator, firstItem};
 ghost use Rattle.packages.specs.Cuts.{testOf, Gives};
 
 // The bytes that separate items or stand around an operator, and the operators' own.
@@ -180,6 +180,13 @@ fn operator_at(value: &[u8], at: usize) -> u8
     Operator::NONE
 }
 
+// How many bytes an operator has.
+fn operator_size(operator: u8) -> usize
+    ensures { λ r. ⌜ r ≡ operatorSize operator ⌝ }
+{
+    if operator <= Operator::GREATER { 1 } else { 2 }
+}
+
 // An item with this name and operator, whose version is due from `at` on.
 fn version_at(value: &[u8], name: usize, size: usize, operator: u8, at: usize) -> Found
     requires { ⌜ (name + size ≤ length (now value)) × (at ≤ length (now value)) ⌝ }
@@ -221,10 +228,8 @@ fn named_at(value: &[u8], name: usize, size: usize) -> Found
     if operator == Operator::ALONE {
         return Found::Malformed;
     }
-    if operator <= Operator::GREATER {
-        return version_at(value, name, size, operator, sign + 1);
-    }
-    version_at(value, name, size, operator, sign + 2)
+    let after = sign + operator_size(operator);
+    version_at(value, name, size, operator, after)
 }
 
 // What stands at a place, after any separators.

@@ -7,13 +7,13 @@ use mathlib.Core.Option.{Option, none, some}
 use native.Mathlib.Omega.{arith}
 use lib.ListN.{length, getD, take, drop, length-append, length-drop}
 use lib.Seq.{length-take-le}
-use lib.Dec.{eqb, leb, ltb}
+use lib.Dec.{eqb, ltb}
 use borrow.Author.Tests.{eqb-false, ltb-true, ltb-false}
 use Rattle.rules.specs.Bytes.{pick, is, run, all, overwrite}
 use Rattle.rules.specs.Variables.{limit}
 use Rattle.rules.specs.Records.{recordBytes}
 use Rattle.rules.specs.Listing.{Front, front, linesOfRecords}
-use Rattle.rules.specs.Packages.{isBlank, isSeparator, isWord, skip, word, startsWithEquals, operatorOf, operatorSize, alone, Item, First, nothing, malformed, item, withVersion, withOperator, firstItem, Items, items, malformedAt, after, itemsWithin, itemsOf, valueWithin, valueOf, itemRecords, itemsRecords, Answer, Accepted, NotRecords, Malformed, OutputShort, number, Packaged, written, packaged, packages}
+use Rattle.rules.specs.Packages.{isBlank, isSeparator, isWord, skip, word, startsWithEquals, operatorOf, operatorSize, Item, First, nothing, malformed, item, withVersion, withOperator, firstItem, Items, items, malformedAt, after, itemsWithin, itemsOf, valueWithin, valueOf, itemRecords, itemsRecords, Accepted, NotRecords, Malformed, OutputShort, number, Packaged, written, packaged, packages}
 use Rattle.rules.proofs.LexingLaws.{run-le}
 use Rattle.rules.proofs.ListingLaws.{length-record, front-record}
 use Rattle.rules.proofs.FormLaws.{sizeOf, front-cut}

@@ -1,6 +1,6 @@
 -- `packages::cut::named_at` meets its contract. Assumes nothing.
 use native.Mathlib.Omega.{arith}
-use Rattle.packages.proofs.Finds.{operator-none, operator-alone, operator-then, sign-fits, size-one, size-two}
+use Rattle.packages.proofs.Finds.{operator-none, operator-alone, operator-then, sign-fits}
 use borrow.Author.Needs.{needs}
 use Rattle.packages.proofs.cut.named_at.Statement.{statement}
 use Rattle.packages.proofs.cut.named_at.Tie as tie
@@ -28,57 +28,30 @@ returns-2 c =
     let a = s .args in
     operator-alone (a .value .now) (a .name) (a .size) _ _ (s .pre) (o .before .past .ensures) (o .operator-at .ensures) (c .before .if1 .left) (c .if2 .taken)
 
-add-version-at : tie.Need-add-version-at
-add-version-at c =
+operator-size-requires : tie.Need-operator-size-requires
+operator-size-requires c κs = search needs
+
+add-after : tie.Need-add-after
+add-after c =
     let o = c .before .before .before in
     let s = o .before .before .before in
     let a = s .args in
-    let h = sign-fits (a .value .now) (a .name) (a .size) _ _ (s .pre) (o .before .past .ensures) (o .operator-at .ensures) (c .before .before .if1 .left) (c .before .if2 .left) in
-    let e = size-one (a .value .now) (a .name) (a .size) _ _ (s .pre) (o .before .past .ensures) (o .operator-at .ensures) (c .before .before .if1 .left) (c .before .if2 .left) (c .if3 .taken) in
-    omega (arith, h, e)
+    let h = sign-fits (a .value .now) (a .name) (a .size) _ _ (s .pre) (o .before .past .ensures) (o .operator-at .ensures) (c .before .before .if1 .left) (c .before .if2 .left) _ (c .operator-size .ensures) in
+    omega (arith, h)
 
 version-at-requires : tie.Need-version-at-requires
 version-at-requires c κs =
     let o = c .before .before .before in
     let s = o .before .before .before in
     let a = s .args in
-    let h = sign-fits (a .value .now) (a .name) (a .size) _ _ (s .pre) (o .before .past .ensures) (o .operator-at .ensures) (c .before .before .if1 .left) (c .before .if2 .left) in
-    let e = size-one (a .value .now) (a .name) (a .size) _ _ (s .pre) (o .before .past .ensures) (o .operator-at .ensures) (c .before .before .if1 .left) (c .before .if2 .left) (c .if3 .taken) in
-    (s .pre, omega (arith, h, e))
+    (s .pre, sign-fits (a .value .now) (a .name) (a .size) _ _ (s .pre) (o .before .past .ensures) (o .operator-at .ensures) (c .before .before .if1 .left) (c .before .if2 .left) _ (c .operator-size .ensures))
 
 returns-3 : tie.Need-returns-3
 returns-3 c =
     let o = c .before .before .before .before in
     let s = o .before .before .before in
     let a = s .args in
-    let e = size-one (a .value .now) (a .name) (a .size) _ _ (s .pre) (o .before .past .ensures) (o .operator-at .ensures) (c .before .before .before .if1 .left) (c .before .before .if2 .left) (c .before .if3 .taken) in
-    operator-then (a .value .now) (a .name) (a .size) _ _ (s .pre) (o .before .past .ensures) (o .operator-at .ensures) (c .before .before .before .if1 .left) (c .before .before .if2 .left) _ _ e (c .version-at .ensures)
-
-add-version-at-2 : tie.Need-add-version-at-2
-add-version-at-2 c =
-    let o = c .before .before .before in
-    let s = o .before .before .before in
-    let a = s .args in
-    let h = sign-fits (a .value .now) (a .name) (a .size) _ _ (s .pre) (o .before .past .ensures) (o .operator-at .ensures) (c .before .before .if1 .left) (c .before .if2 .left) in
-    let e = size-two (a .value .now) (a .name) (a .size) _ _ (s .pre) (o .before .past .ensures) (o .operator-at .ensures) (c .before .before .if1 .left) (c .before .if2 .left) (c .if3 .left) in
-    omega (arith, h, e)
-
-version-at-requires-2 : tie.Need-version-at-requires-2
-version-at-requires-2 c κs =
-    let o = c .before .before .before in
-    let s = o .before .before .before in
-    let a = s .args in
-    let h = sign-fits (a .value .now) (a .name) (a .size) _ _ (s .pre) (o .before .past .ensures) (o .operator-at .ensures) (c .before .before .if1 .left) (c .before .if2 .left) in
-    let e = size-two (a .value .now) (a .name) (a .size) _ _ (s .pre) (o .before .past .ensures) (o .operator-at .ensures) (c .before .before .if1 .left) (c .before .if2 .left) (c .if3 .left) in
-    (s .pre, omega (arith, h, e))
-
-returns-4 : tie.Need-returns-4
-returns-4 c =
-    let o = c .before .before .before .before in
-    let s = o .before .before .before in
-    let a = s .args in
-    let e = size-two (a .value .now) (a .name) (a .size) _ _ (s .pre) (o .before .past .ensures) (o .operator-at .ensures) (c .before .before .before .if1 .left) (c .before .before .if2 .left) (c .before .if3 .left) in
-    operator-then (a .value .now) (a .name) (a .size) _ _ (s .pre) (o .before .past .ensures) (o .operator-at .ensures) (c .before .before .before .if1 .left) (c .before .before .if2 .left) _ _ e (c .version-at2 .ensures)
+    operator-then (a .value .now) (a .name) (a .size) _ _ (s .pre) (o .before .past .ensures) (o .operator-at .ensures) (c .before .before .before .if1 .left) (c .before .before .if2 .left) _ (c .before .operator-size .ensures) _ (c .version-at .ensures)
 
 pub named-at-spec : {M : Type 1} → statement M
 named-at-spec =
@@ -89,9 +62,7 @@ named-at-spec =
     operator-at-requires
     returns
     returns-2
-    add-version-at
+    operator-size-requires
+    add-after
     version-at-requires
-    returns-3
-    add-version-at-2
-    version-at-requires-2
-    returns-4)
+    returns-3)
