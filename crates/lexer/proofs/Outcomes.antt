@@ -46,19 +46,13 @@ lexes-one text ws pool ws₁ ws₂ pool₁ pool₂ (Refused e₁ p₁) (Refused 
 pub lexed-back : (text ws ws′ pool pool′ : List ℕ) (count used : ℕ) (h : Holds text ws ws′ pool pool′ count used) → decode count ws′ pool′ ≡ h .ts
 lexed-back text ws ws′ pool pool′ count used h = rw (h .is-count, h .is-ws, h .is-pool) (read-back text ws pool (h .ts) (h .is-tokens))
 
--- the tokens fit: so many as the text has bytes at most, and the lengths of workspace and pool are as they were
+-- the tokens fit: so many as the text has bytes at most, and the workspace is as long as it was
 module _ (text ws ws′ pool pool′ : List ℕ) (count used : ℕ) (r : Room text ws pool) (h : Holds text ws ws′ pool pool′ count used) where
   pub count-fits : count ≤ length text
   count-fits = omega (arith, h .is-count, tokens-room text (h .ts) (h .is-tokens))
 
-  pub used-fits : used ≤ length text
-  used-fits = omega (arith, h .is-used, tokens-room text (h .ts) (h .is-tokens))
-
   pub long-ws : length ws′ ≡ length ws
   long-ws = ap length (h .is-ws) ∙ length-overwrite (entries (h .ts)) ws (omega (arith, count-fits, length-entries (h .ts), h .is-count))
-
-  pub long-pool : length pool′ ≡ length pool
-  long-pool = ap length (h .is-pool) ∙ length-overwrite (poolOf (h .ts)) pool (omega (arith, used-fits, h .is-used))
 
   pub entries-fit : 4 * count ≤ length ws′
   entries-fit = omega (arith, count-fits, long-ws)

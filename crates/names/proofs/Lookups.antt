@@ -14,10 +14,10 @@ use Rattle.rules.specs.Lines.{Assignment}
 use Rattle.rules.specs.Variables.{rankOf}
 use Rattle.scan.specs.Stores.{puts}
 use Rattle.scan.proofs.Lists.{cell-in}
-use Rattle.scan.proofs.Stores.{length-puts, puts-puts, column-before, getD-stored, getD-puts-below, getD-puts-above}
+use Rattle.scan.proofs.Stores.{length-puts, puts-puts, column-before, getD-stored, getD-puts-below}
 use Rattle.tokens.specs.Entries.{decode, tokenAt, poolText, kindAt}
 use Rattle.tokens.proofs.TokenLaws.{length-decode, kind-at, decode-same}
-use Rattle.workspace.specs.Map.{keysOf, startsOf, endsOf, variablesIn, fieldIn, Looked}
+use Rattle.workspace.specs.Map.{keysOf, startsOf, endsOf, variablesIn, Looked}
 use Rattle.names.specs.Store.{Searchable, rankFor, ranks, Lookable}
 use Rattle.names.proofs.Places.{table-length}
 
@@ -74,10 +74,6 @@ module _ (n count v : ℕ) (ws pool xs : List ℕ) (t : count ≤ n) (f : v ≤ 
   pub looked-variables : variablesIn n count v (puts ws (7 * n) xs) pool ≡ variablesIn n count v ws pool
   unfolding variablesIn
   looked-variables = rw (looked-tokens, looked-starts, looked-ends, looked-keys)
-
-  pub looked-fields : (g : ℕ) → fieldIn n count (puts ws (7 * n) xs) pool g ≡ fieldIn n count ws pool g
-  unfolding fieldIn
-  looked-fields g = rw (looked-tokens, looked-starts, looked-ends, getD-puts-above ws (7 * n) xs (12 * n + g) 0 (omega arith))
 
 pub length-ranks : (vs : List Assignment) (ts : List Token) → length (ranks vs ts) ≡ length ts
 unfolding ranks

@@ -3,5 +3,4 @@ pub mod Frames
 pub mod Lines
 pub mod Assigning
 pub mod Giving
-pub mod LookedUp
 pub mod Lexed
