@@ -14,7 +14,7 @@ use std::process::ExitCode;
 use std::time::{Duration, Instant};
 
 /// For how long each of the four is timed, at least once.
-const BUDGET: Duration = Duration::from_millis(600);
+const BUDGET: Duration = Duration::from_millis(1500);
 
 /// The shortest time that is taken as one measurement.
 const MEASUREMENT: Duration = Duration::from_millis(5);
