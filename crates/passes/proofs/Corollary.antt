@@ -57,22 +57,22 @@ pub record Demanded (vs : List Assignment) (ts : List Token) (lens : List ℕ) (
 
 -- what `resolve_variables` leaves
 module _ {n count v : ℕ} {ws : List ℕ} (R : Room n count v ws) {pool ws′ : List ℕ} {r : Settled} {passes : ℕ} (A : Resolves n count v pool ws ws′ r passes) where
-  columns-length : length (columns n (resolveLens (rulesIn n count v ws pool))) ≡ 4 * n
+  columns-length : length (columns v (resolveLens (rulesIn n count v ws pool))) ≡ 4 * v
   unfolding columns
   columns-length = rw (← A .is-answer) (go r)
     where
-      go : (s : Settled) → length (columns n (meaning n count v ws′ pool s)) ≡ 4 * n
+      go : (s : Settled) → length (columns v (meaning n count v ws′ pool s)) ≡ 4 * v
       go Set.Resolved =
-          omega (arith, length-append (lengthsOf n v ws′) (replicate (4 * n - length (lengthsOf n v ws′)) 0), length-replicate {A = ℕ} (4 * n - length (lengthsOf n v ws′)) 0, length-take v (drop (8 * n) ws′), few R)
-      go (Set.TooLarge i) = length-replicate (4 * n) 0
-      go (Set.Lacks i j) = length-replicate (4 * n) 0
+          omega (arith, length-append (lengthsOf n v ws′) (replicate (4 * v - length (lengthsOf n v ws′)) 0), length-replicate {A = ℕ} (4 * v - length (lengthsOf n v ws′)) 0, length-take v (drop (8 * n) ws′), few R)
+      go (Set.TooLarge i) = length-replicate (4 * v) 0
+      go (Set.Lacks i j) = length-replicate (4 * v) 0
 
   -- all but the columns from 8n up to 12n is as it was
   pub resolve-keeps : Kept n ws ws′
-  resolve-keeps = rw (A .is-workspace) (kept-puts n ws (8 * n) (columns n (resolveLens (rulesIn n count v ws pool))) (omega arith) (omega (arith, columns-length)))
+  resolve-keeps = rw (A .is-workspace) (kept-puts n ws (8 * n) (columns v (resolveLens (rulesIn n count v ws pool))) (omega arith) (omega (arith, columns-length)))
 
   pub resolve-long : length ws′ ≡ length ws
-  resolve-long = ap length (A .is-workspace) ∙ length-puts ws (8 * n) (columns n (resolveLens (rulesIn n count v ws pool)))
+  resolve-long = ap length (A .is-workspace) ∙ length-puts ws (8 * n) (columns v (resolveLens (rulesIn n count v ws pool)))
 
   -- by its variables, in byte order and looked up
   module _ (looked : Looked n count ws pool (variablesIn n count v ws pool)) where

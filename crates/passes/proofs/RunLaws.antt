@@ -27,25 +27,25 @@ use Rattle.passes.specs.declared.visits.Settled.{Settled}
 use Rattle.passes.specs.declared.visits.Settled.the-variants as Set
 
 -- the columns cleared
-module _ {n count v : ℕ} {ws₀ : List ℕ} (R : Room n count v ws₀) (pool ws : List ℕ) (e : ws ≡ puts ws₀ (8 * n) (replicate (4 * n) 0)) where
-  zero-at : (k : ℕ) → k < 4 * n → getD ws (8 * n + k) 0 ≡ 0
+module _ {n count v : ℕ} {ws₀ : List ℕ} (R : Room n count v ws₀) (pool ws : List ℕ) (e : ws ≡ puts ws₀ (8 * n) (replicate (4 * v) 0)) where
+  zero-at : (k : ℕ) → k < 4 * v → getD ws (8 * n + k) 0 ≡ 0
   zero-at k h =
-      let l = length-replicate {A = ℕ} (4 * n) 0 in
-      ap (λ (x : List ℕ). getD x (8 * n + k) 0) e ∙ getD-stored ws₀ (8 * n) (replicate (4 * n) 0) (omega (arith, l, R .room)) k 0 (omega (arith, l)) ∙ getD-replicate (4 * n) k 0 0 h
+      let l = length-replicate {A = ℕ} (4 * v) 0 in
+      ap (λ (x : List ℕ). getD x (8 * n + k) 0) e ∙ getD-stored ws₀ (8 * n) (replicate (4 * v) 0) (omega (arith, l, R .room)) k 0 (omega (arith, l)) ∙ getD-replicate (4 * v) k 0 0 h
 
-  zero-in : (b i : ℕ) → 8 * n ≤ b → b + v ≤ 12 * n → i < v → getD (take v (drop b ws)) i 0 ≡ 0
+  zero-in : (b i : ℕ) → 8 * n ≤ b → b + v ≤ 8 * n + 4 * v → i < v → getD (take v (drop b ws)) i 0 ≡ 0
   zero-in b i p q h =
       let x : b + i ≡ 8 * n + (b + i - 8 * n) = omega arith in
       getD-take v (drop b ws) i 0 h ∙ getD-drop b ws i 0 ∙ ap (λ (y : ℕ). getD ws y 0) x ∙ zero-at (b + i - 8 * n) (omega arith)
 
   long-cleared : length ws ≡ length ws₀
-  long-cleared = ap length e ∙ length-puts ws₀ (8 * n) (replicate (4 * n) 0)
+  long-cleared = ap length e ∙ length-puts ws₀ (8 * n) (replicate (4 * v) 0)
 
   low-cleared : take (8 * n) ws ≡ take (8 * n) ws₀
-  low-cleared = rw e (take-puts (8 * n) ws₀ (8 * n) (replicate (4 * n) 0) (omega arith))
+  low-cleared = rw e (take-puts (8 * n) ws₀ (8 * n) (replicate (4 * v) 0) (omega arith))
 
-  high-cleared : drop (12 * n) ws ≡ drop (12 * n) ws₀
-  high-cleared = rw e (drop-puts (12 * n) ws₀ (8 * n) (replicate (4 * n) 0) (omega (arith, length-replicate {A = ℕ} (4 * n) 0)))
+  high-cleared : drop (8 * n + 4 * v) ws ≡ drop (8 * n + 4 * v) ws₀
+  high-cleared = rw e (drop-puts (8 * n + 4 * v) ws₀ (8 * n) (replicate (4 * v) 0) (omega (arith, length-replicate {A = ℕ} (4 * v) 0)))
 
   room-cleared : Room n count v ws
   room-cleared = record { small = R .small; room = omega (arith, long-cleared, R .room); tokens = R .tokens; few = R .few }
@@ -60,7 +60,7 @@ module _ {n count v : ℕ} {ws₀ : List ℕ} (R : Room n count v ws₀) (pool w
           low = refl;
           high = refl;
           resumes = λ i h.
-              rw (zero-in (9 * n) i (omega arith) (omega arith) h, zero-in (10 * n) i (omega arith) (omega arith) h, rule-rest room-cleared pool i h)
+              rw (zero-in (8 * n + v) i (omega arith) (omega arith) h, zero-in (8 * n + 2 * v) i (omega arith) (omega arith) h, rule-rest room-cleared pool i h)
               record { same = λ m x. refl; fits = omega arith };
         };
         none = ext-getD 0 (lengthsOf n v ws) (replicate v 0) (column-length room-cleared (8 * n) (omega arith) ∙ sym (length-replicate v 0))
@@ -176,18 +176,18 @@ kept-few (Set.TooLarge i) v = omega arith
 kept-few (Set.Lacks i j) v = omega arith
 
 -- the whole: the columns cleared, the passes, and all cleared but the lengths that stay
-module _ {n count v : ℕ} {ws₀ : List ℕ} (R : Room n count v ws₀) (pool ws : List ℕ) (e : ws ≡ puts ws₀ (8 * n) (replicate (4 * n) 0))
+module _ {n count v : ℕ} {ws₀ : List ℕ} (R : Room n count v ws₀) (pool ws : List ℕ) (e : ws ≡ puts ws₀ (8 * n) (replicate (4 * v) 0))
     {ws₁ : List ℕ} {r : Settled} {passes : ℕ} (A : Runs n count v pool ws ws₁ r passes) (k : ℕ) (ek : k ≡ keptOf r v) where
-  pub small-kept : k ≤ n
-  small-kept = omega (arith, kept-few r v, few R)
+  pub small-kept : k ≤ v
+  small-kept = omega (arith, kept-few r v)
 
   long-all : length ws₁ ≡ length ws₀
   long-all = A .long ∙ long-cleared R pool ws e
 
-  pub room-all : 12 * n ≤ length ws₁
+  pub room-all : 8 * n + 4 * v ≤ length ws₁
   room-all = omega (arith, long-all, R .room)
 
-  module _ (ws′ : List ℕ) (e′ : ws′ ≡ puts ws₁ (8 * n + k) (replicate (4 * n - k) 0)) where
+  module _ (ws′ : List ℕ) (e′ : ws′ ≡ puts ws₁ (8 * n + k) (replicate (4 * v - k) 0)) where
     is-rules : rulesIn n count v ws pool ≡ rulesIn n count v ws₀ pool
     is-rules = rules-low n count v ws₀ ws pool (R .tokens) (few R) (low-cleared R pool ws e)
 
@@ -198,25 +198,25 @@ module _ {n count v : ℕ} {ws₀ : List ℕ} (R : Room n count v ws₀) (pool w
     unfolding stays
     length-stays = length-take-le k (drop (8 * n) ws₁) (omega (arith, length-drop (8 * n) ws₁, room-all, small-kept))
 
-    length-columns : length (stays ++ replicate (4 * n - k) 0) ≡ 4 * n
-    length-columns = omega (arith, length-append stays (replicate (4 * n - k) 0), length-stays, length-replicate {A = ℕ} (4 * n - k) 0, small-kept)
+    length-columns : length (stays ++ replicate (4 * v - k) 0) ≡ 4 * v
+    length-columns = omega (arith, length-append stays (replicate (4 * v - k) 0), length-stays, length-replicate {A = ℕ} (4 * v - k) 0, small-kept)
 
-    in-one : ws′ ≡ puts ws₁ (8 * n) (stays ++ replicate (4 * n - k) 0)
+    in-one : ws′ ≡ puts ws₁ (8 * n) (stays ++ replicate (4 * v - k) 0)
     unfolding stays
     in-one =
-        e′ ∙ ap₂ (λ (l : List ℕ) (i : ℕ). puts l (8 * n + i) (replicate (4 * n - k) 0)) (sym (puts-same ws₁ (8 * n) k (omega (arith, room-all, small-kept)))) (sym length-stays)
-        ∙ puts-puts ws₁ (8 * n) (take k (drop (8 * n) ws₁)) (replicate (4 * n - k) 0)
+        e′ ∙ ap₂ (λ (l : List ℕ) (i : ℕ). puts l (8 * n + i) (replicate (4 * v - k) 0)) (sym (puts-same ws₁ (8 * n) k (omega (arith, room-all, small-kept)))) (sym length-stays)
+        ∙ puts-puts ws₁ (8 * n) (take k (drop (8 * n) ws₁)) (replicate (4 * v - k) 0)
 
-    over-first : puts ws₁ (8 * n) (stays ++ replicate (4 * n - k) 0) ≡ puts ws₀ (8 * n) (stays ++ replicate (4 * n - k) 0)
+    over-first : puts ws₁ (8 * n) (stays ++ replicate (4 * v - k) 0) ≡ puts ws₀ (8 * n) (stays ++ replicate (4 * v - k) 0)
     over-first =
-        let q : 8 * n + length (stays ++ replicate (4 * n - k) 0) ≡ 12 * n = omega (arith, length-columns) in
-        puts-window ws₁ ws₀ (8 * n) (stays ++ replicate (4 * n - k) 0) long-all (omega (arith, q, room-all)) (A .low ∙ low-cleared R pool ws e) (rw q (A .high ∙ high-cleared R pool ws e))
+        let q : 8 * n + length (stays ++ replicate (4 * v - k) 0) ≡ 8 * n + 4 * v = omega (arith, length-columns) in
+        puts-window ws₁ ws₀ (8 * n) (stays ++ replicate (4 * v - k) 0) long-all (omega (arith, q, room-all)) (A .low ∙ low-cleared R pool ws e) (rw q (A .high ∙ high-cleared R pool ws e))
 
-    is-columns : stays ++ replicate (4 * n - k) 0 ≡ columns n (meaning n count v ws₁ pool r)
+    is-columns : stays ++ replicate (4 * v - k) 0 ≡ columns v (meaning n count v ws₁ pool r)
     unfolding columns stays
     is-columns = go r ek
       where
-        go : (s : Settled) → k ≡ keptOf s v → take k (drop (8 * n) ws₁) ++ replicate (4 * n - k) 0 ≡ columns n (meaning n count v ws₁ pool s)
+        go : (s : Settled) → k ≡ keptOf s v → take k (drop (8 * n) ws₁) ++ replicate (4 * v - k) 0 ≡ columns v (meaning n count v ws₁ pool s)
         go Set.Resolved q = let l : length (lengthsOf n v ws₁) ≡ v = length-take-le v (drop (8 * n) ws₁) (omega (arith, length-drop (8 * n) ws₁, room-all, few R)) in rw (q, l)
         go (Set.TooLarge i) q = rw (q, sub-zero)
         go (Set.Lacks i j) q = rw (q, sub-zero)
@@ -225,16 +225,16 @@ module _ {n count v : ℕ} {ws₀ : List ℕ} (R : Room n count v ws₀) (pool w
     is-meaning = go r ek
       where
         go : (s : Settled) → k ≡ keptOf s v → meaning n count v ws′ pool s ≡ meaning n count v ws₁ pool s
-        go Set.Resolved q = ap Settles.settled (ap (lengthsOf n v) e′ ∙ column-before v (8 * n) ws₁ (8 * n + k) (replicate (4 * n - k) 0) (omega arith))
+        go Set.Resolved q = ap Settles.settled (ap (lengthsOf n v) e′ ∙ column-before v (8 * n) ws₁ (8 * n + k) (replicate (4 * v - k) 0) (omega arith))
         go (Set.TooLarge i) q = refl
         go (Set.Lacks i j) q =
             ap (λ (ts : List Token). Settles.lacks i (tokenAt ts j))
-            (decode-low (8 * n) ws₁ ws′ (rw e′ (take-puts (8 * n) ws₁ (8 * n + k) (replicate (4 * n - k) 0) (omega arith))) count pool (omega (arith, R .tokens)))
+            (decode-low (8 * n) ws₁ ws′ (rw e′ (take-puts (8 * n) ws₁ (8 * n + k) (replicate (4 * v - k) 0) (omega arith))) count pool (omega (arith, R .tokens)))
 
     pub resolved : Resolves n count v pool ws₀ ws′ r passes
     resolved =
         record {
           is-answer = is-meaning ∙ A .is-answer ∙ ap resolveLens is-rules;
           is-count = A .is-count ∙ ap passCount is-rules;
-          is-workspace = in-one ∙ over-first ∙ ap (puts ws₀ (8 * n)) (is-columns ∙ ap (columns n) (A .is-answer ∙ ap resolveLens is-rules));
+          is-workspace = in-one ∙ over-first ∙ ap (puts ws₀ (8 * n)) (is-columns ∙ ap (columns v) (A .is-answer ∙ ap resolveLens is-rules));
         }

@@ -39,7 +39,7 @@ module _ {n count v : ℕ} {ws : List ℕ} (R : Room n count v ws) where
   few = omega (arith, R .few, R .tokens)
 
   -- a column of v entries has v
-  pub column-length : (b : ℕ) → b ≤ 11 * n → length (take v (drop b ws)) ≡ v
+  pub column-length : (b : ℕ) → b ≤ 8 * n + 3 * v → length (take v (drop b ws)) ≡ v
   column-length b h = length-take-le v (drop b ws) (omega (arith, length-drop b ws, R .room, few))
 
   -- a variable's pieces are those from its first token on
@@ -137,7 +137,7 @@ module _ {n count v : ℕ} {pool ws : List ℕ} (S : State n count v pool ws ws)
   goes r e =
       rw e (advances (decode count ws pool) (ranksOf n ws) (lengthsOf n v ws) (endAt n v ws i) (resumeAt (startAt n v ws i) (getD (stopsOf n v ws) i 0)) (getD (sumsOf n v ws) i 0) (S .resumes i h .fits))
 
-  pub visit-over : Adv.Over ≡ advanceIn n count v ws pool i → State n count v pool ws ws × Visits n count v pool ws ws i Vis.Over × Beyond n ws ws
+  pub visit-over : Adv.Over ≡ advanceIn n count v ws pool i → State n count v pool ws ws × Visits n count v pool ws ws i Vis.Over × Beyond n v ws ws
   unfolding restOf
   visit-over e = (S, gone ∙ goes Adv.Over e, refl)
 
@@ -153,23 +153,23 @@ module _ {n count v : ℕ} {pool ws : List ℕ} (S : State n count v pool ws ws)
     lacks-token = gone ∙ goes (Adv.Missing k t) e .3
 
     stopped : List ℕ
-    stopped = set (set ws (9 * n + i) (k + 1)) (10 * n + i) t
+    stopped = set (set ws (8 * n + v + i) (k + 1)) (8 * n + 2 * v + i) t
 
     lengths-stop : lengthsOf n v stopped ≡ lengthsOf n v ws
     unfolding stopped
     lengths-stop =
         let f = few (S .room) in
-        column-above v (8 * n) (10 * n + i) t (set ws (9 * n + i) (k + 1)) (omega arith) ∙ column-above v (8 * n) (9 * n + i) (k + 1) ws (omega arith)
+        column-above v (8 * n) (8 * n + 2 * v + i) t (set ws (8 * n + v + i) (k + 1)) (omega arith) ∙ column-above v (8 * n) (8 * n + v + i) (k + 1) ws (omega arith)
 
     stops-stop : stopsOf n v stopped ≡ set (stopsOf n v ws) i (k + 1)
     unfolding stopped
-    stops-stop = let f = few (S .room) in column-above v (9 * n) (10 * n + i) t (set ws (9 * n + i) (k + 1)) (omega arith) ∙ column-at v (9 * n) i (k + 1) ws h
+    stops-stop = let f = few (S .room) in column-above v (8 * n + v) (8 * n + 2 * v + i) t (set ws (8 * n + v + i) (k + 1)) (omega arith) ∙ column-at v (8 * n + v) i (k + 1) ws h
 
     sums-stop : sumsOf n v stopped ≡ set (sumsOf n v ws) i t
     unfolding stopped
     sums-stop =
         let f = few (S .room) in
-        column-at v (10 * n) i t (set ws (9 * n + i) (k + 1)) h ∙ ap (λ (l : List ℕ). set l i t) (column-below v (10 * n) (9 * n + i) (k + 1) ws (omega arith))
+        column-at v (8 * n + 2 * v) i t (set ws (8 * n + v + i) (k + 1)) h ∙ ap (λ (l : List ℕ). set l i t) (column-below v (8 * n + 2 * v) (8 * n + v + i) (k + 1) ws (omega arith))
 
     here : Resumes (lengthsOf n v ws) (rule n count v ws pool i) (restOf n count v ws pool i (k + 1)) t
     unfolding restOf resumeAt
@@ -179,25 +179,25 @@ module _ {n count v : ℕ} {pool ws : List ℕ} (S : State n count v pool ws ws)
         → Resumes (lengthsOf n v ws) (rule n count v ws pool j) (restOf n count v ws pool j (getD (set (stopsOf n v ws) i (k + 1)) j 0)) (getD (set (sumsOf n v ws) i t) j 0)
     resumes-stop j q = elim (dec-eq j i) [
       | yes p ↦
-          rw (p, getD-set-same (stopsOf n v ws) i (k + 1) 0 (omega (arith, column-length (S .room) (9 * n) (omega arith))), getD-set-same (sumsOf n v ws) i t 0 (omega (arith, column-length (S .room) (10 * n) (omega arith))))
+          rw (p, getD-set-same (stopsOf n v ws) i (k + 1) 0 (omega (arith, column-length (S .room) (8 * n + v) (omega arith))), getD-set-same (sumsOf n v ws) i t 0 (omega (arith, column-length (S .room) (8 * n + 2 * v) (omega arith))))
           here
       | no p ↦ rw (getD-set-other (stopsOf n v ws) i j (k + 1) 0 p, getD-set-other (sumsOf n v ws) i j t 0 p) (S .resumes j q)
     ]
 
-    pub visit-blocked : State n count v pool ws (set (set ws (9 * n + i) (k + 1)) (10 * n + i) t) × Visits n count v pool ws (set (set ws (9 * n + i) (k + 1)) (10 * n + i) t) i (Vis.Blocked k)
-        × Beyond n ws (set (set ws (9 * n + i) (k + 1)) (10 * n + i) t)
+    pub visit-blocked : State n count v pool ws (set (set ws (8 * n + v + i) (k + 1)) (8 * n + 2 * v + i) t) × Visits n count v pool ws (set (set ws (8 * n + v + i) (k + 1)) (8 * n + 2 * v + i) t) i (Vis.Blocked k)
+        × Beyond n v ws (set (set ws (8 * n + v + i) (k + 1)) (8 * n + 2 * v + i) t)
     unfolding stopped
     visit-blocked =
         let f = few (S .room) in (
           record {
             room = S .room;
-            long = length-set (set ws (9 * n + i) (k + 1)) (10 * n + i) t ∙ length-set ws (9 * n + i) (k + 1);
-            low = take-set-le (8 * n) (set ws (9 * n + i) (k + 1)) (10 * n + i) t (omega arith) ∙ take-set-le (8 * n) ws (9 * n + i) (k + 1) (omega arith);
-            high = drop-set-lt (12 * n) (set ws (9 * n + i) (k + 1)) (10 * n + i) t (omega arith) ∙ drop-set-lt (12 * n) ws (9 * n + i) (k + 1) (omega arith);
+            long = length-set (set ws (8 * n + v + i) (k + 1)) (8 * n + 2 * v + i) t ∙ length-set ws (8 * n + v + i) (k + 1);
+            low = take-set-le (8 * n) (set ws (8 * n + v + i) (k + 1)) (8 * n + 2 * v + i) t (omega arith) ∙ take-set-le (8 * n) ws (8 * n + v + i) (k + 1) (omega arith);
+            high = drop-set-lt (8 * n + 4 * v) (set ws (8 * n + v + i) (k + 1)) (8 * n + 2 * v + i) t (omega arith) ∙ drop-set-lt (8 * n + 4 * v) ws (8 * n + v + i) (k + 1) (omega arith);
             resumes = rw (lengths-stop, stops-stop, sums-stop) resumes-stop;
           },
           (lengths-stop, stops-stop ∙ rw add-one, goes (Adv.Missing k t) e .4, goes (Adv.Missing k t) e .5, lacks-token),
-          drop-set-lt (11 * n) (set ws (9 * n + i) (k + 1)) (10 * n + i) t (omega arith) ∙ drop-set-lt (11 * n) ws (9 * n + i) (k + 1) (omega arith),
+          drop-set-lt (8 * n + 3 * v) (set ws (8 * n + v + i) (k + 1)) (8 * n + 2 * v + i) t (omega arith) ∙ drop-set-lt (8 * n + 3 * v) ws (8 * n + v + i) (k + 1) (omega arith),
         )
 
   module _ (t : ℕ) (e : Adv.Sum t ≡ advanceIn n count v ws pool i) where
@@ -211,23 +211,23 @@ module _ {n count v : ℕ} {pool ws : List ℕ} (S : State n count v pool ws ws)
         | no p ↦ getD-set-other (lengthsOf n v ws) i j (t + 1) 0 p ∙ q
       ]
 
-      pub visit-valued : State n count v pool ws (set ws (8 * n + i) (t + 1)) × Visits n count v pool ws (set ws (8 * n + i) (t + 1)) i Vis.Valued × Beyond n ws (set ws (8 * n + i) (t + 1))
+      pub visit-valued : State n count v pool ws (set ws (8 * n + i) (t + 1)) × Visits n count v pool ws (set ws (8 * n + i) (t + 1)) i Vis.Valued × Beyond n v ws (set ws (8 * n + i) (t + 1))
       unfolding restOf
       visit-valued =
           let f = few (S .room) in
           let L : lengthsOf n v (set ws (8 * n + i) (t + 1)) ≡ set (lengthsOf n v ws) i (t + 1) = column-at v (8 * n) i (t + 1) ws h in
-          let D : stopsOf n v (set ws (8 * n + i) (t + 1)) ≡ stopsOf n v ws = column-below v (9 * n) (8 * n + i) (t + 1) ws (omega arith) in
-          let E : sumsOf n v (set ws (8 * n + i) (t + 1)) ≡ sumsOf n v ws = column-below v (10 * n) (8 * n + i) (t + 1) ws (omega arith) in (
+          let D : stopsOf n v (set ws (8 * n + i) (t + 1)) ≡ stopsOf n v ws = column-below v (8 * n + v) (8 * n + i) (t + 1) ws (omega arith) in
+          let E : sumsOf n v (set ws (8 * n + i) (t + 1)) ≡ sumsOf n v ws = column-below v (8 * n + 2 * v) (8 * n + i) (t + 1) ws (omega arith) in (
             record {
               room = S .room;
               long = length-set ws (8 * n + i) (t + 1);
               low = take-set-le (8 * n) ws (8 * n + i) (t + 1) (omega arith);
-              high = drop-set-lt (12 * n) ws (8 * n + i) (t + 1) (omega arith);
+              high = drop-set-lt (8 * n + 4 * v) ws (8 * n + i) (t + 1) (omega arith);
               resumes = rw (L, D, E)
                   (λ j q. record { same = λ m x. S .resumes j q .same m (extends-then (lengthsOf n v ws) (set (lengthsOf n v ws) i (t + 1)) m grows x); fits = S .resumes j q .fits });
             },
             (t, gone ∙ goes (Adv.Sum t) e .1, L ∙ rw add-one, D),
-            drop-set-lt (11 * n) ws (8 * n + i) (t + 1) (omega arith),
+            drop-set-lt (8 * n + 3 * v) ws (8 * n + i) (t + 1) (omega arith),
           )
 
   -- a variable that lacks a value

@@ -53,7 +53,7 @@ module _ {n count v : ℕ} {pool ws : List ℕ} (S : State n count v pool ws ws)
   next : drop i (rulesIn n count v ws pool) ≡ rule n count v ws pool i ∷ drop (suc i) (rulesIn n count v ws pool)
   next = rule-next (S .room) pool i h
 
-  pub step-valued : (x ≡ 0 → ⊥) → State n count v pool ws ws × Steps n count v pool ws ws i Vis.Known × Beyond n ws ws
+  pub step-valued : (x ≡ 0 → ⊥) → State n count v pool ws ws × Steps n count v pool ws ws i Vis.Known × Beyond n v ws ws
   step-valued z =
       let y = nonzero x z in (
         S,
@@ -65,8 +65,8 @@ module _ {n count v : ℕ} {pool ws : List ℕ} (S : State n count v pool ws ws)
         refl,
       )
 
-  pub step-visited : x ≡ 0 → (ws′ : List ℕ) (r : Visited) → State n count v pool ws ws′ × Visits n count v pool ws ws′ i r × Beyond n ws ws′
-      → State n count v pool ws ws′ × Steps n count v pool ws ws′ i r × Beyond n ws ws′
+  pub step-visited : x ≡ 0 → (ws′ : List ℕ) (r : Visited) → State n count v pool ws ws′ × Visits n count v pool ws ws′ i r × Beyond n v ws ws′
+      → State n count v pool ws ws′ × Steps n count v pool ws ws′ i r × Beyond n v ws ws′
   step-visited z ws′ Vis.Over a =
       (a .0, λ f. rw next (lens-over i (rule n count v ws pool i) (drop (suc i) (rulesIn n count v ws pool)) f (lengthsOf n v ws) (sym e ∙ z) (a .1)), a .2)
   step-visited z ws′ Vis.Known a = absurd (a .1)

@@ -27,7 +27,7 @@ use Rattle.passes.specs.declared.visits.Visited.the-variants as Vis
 use Rattle.passes.specs.declared.blocks.Turned.the-variants as Tur
 
 -- what `mark` writes
-pub marks : (n v j b p : ℕ) (ws : List ℕ) → p ≡ getD (ranksOf n ws) j 0 → p < v → (x : ℕ) → x ≡ bitOr (getD ws (11 * n + p) 0) (2 ^ b) → set ws (11 * n + p) x ≡ markedAt n v j b ws
+pub marks : (n v j b p : ℕ) (ws : List ℕ) → p ≡ getD (ranksOf n ws) j 0 → p < v → (x : ℕ) → x ≡ bitOr (getD ws (8 * n + 3 * v + p) 0) (2 ^ b) → set ws (8 * n + 3 * v + p) x ≡ markedAt n v j b ws
 unfolding markedAt pick
 marks n v j b p ws e h x q = rw (q, e, lt-ltb (getD (ranksOf n ws) j 0) v (omega arith))
 
@@ -44,23 +44,23 @@ pub record Adds (n count v : ℕ) (pool ws ws′ : List ℕ) (j b : ℕ) : Type 
   pub adds : getD (ranksOf n ws) j 0 < v → bitAt (getD (waitersOf n v ws′) (getD (ranksOf n ws) j 0) 0) b ≡ true
 
 module _ {n count v : ℕ} {pool ws : List ℕ} (S : State n count v pool ws ws) (j b : ℕ) (h : b < 32) where
-  mark-one : (p x : ℕ) → p ≡ getD (ranksOf n ws) j 0 → p < v → x ≡ bitOr (getD ws (11 * n + p) 0) (2 ^ b) → Adds n count v pool ws (set ws (11 * n + p) x) j b
+  mark-one : (p x : ℕ) → p ≡ getD (ranksOf n ws) j 0 → p < v → x ≡ bitOr (getD ws (8 * n + 3 * v + p) 0) (2 ^ b) → Adds n count v pool ws (set ws (8 * n + 3 * v + p) x) j b
   mark-one p x e o y =
       let f = few (S .room) in
-      let W : waitersOf n v (set ws (11 * n + p) x) ≡ set (waitersOf n v ws) p x = column-at v (11 * n) p x ws o in
-      let L : lengthsOf n v (set ws (11 * n + p) x) ≡ lengthsOf n v ws = column-above v (8 * n) (11 * n + p) x ws (omega arith) in
-      let D : stopsOf n v (set ws (11 * n + p) x) ≡ stopsOf n v ws = column-above v (9 * n) (11 * n + p) x ws (omega arith) in
-      let T : sumsOf n v (set ws (11 * n + p) x) ≡ sumsOf n v ws = column-above v (10 * n) (11 * n + p) x ws (omega arith) in
-      let l = column-length (S .room) (11 * n) (omega arith) in
+      let W : waitersOf n v (set ws (8 * n + 3 * v + p) x) ≡ set (waitersOf n v ws) p x = column-at v (8 * n + 3 * v) p x ws o in
+      let L : lengthsOf n v (set ws (8 * n + 3 * v + p) x) ≡ lengthsOf n v ws = column-above v (8 * n) (8 * n + 3 * v + p) x ws (omega arith) in
+      let D : stopsOf n v (set ws (8 * n + 3 * v + p) x) ≡ stopsOf n v ws = column-above v (8 * n + v) (8 * n + 3 * v + p) x ws (omega arith) in
+      let T : sumsOf n v (set ws (8 * n + 3 * v + p) x) ≡ sumsOf n v ws = column-above v (8 * n + 2 * v) (8 * n + 3 * v + p) x ws (omega arith) in
+      let l = column-length (S .room) (8 * n + 3 * v) (omega arith) in
       let new : getD (set (waitersOf n v ws) p x) p 0 ≡ bitOr (getD (waitersOf n v ws) p 0) (2 ^ b) =
-      getD-set-same (waitersOf n v ws) p x 0 (omega arith) ∙ y ∙ ap (λ (z : ℕ). bitOr z (2 ^ b)) (sym (getD-take v (drop (11 * n) ws) p 0 o ∙ getD-drop (11 * n) ws p 0))
+      getD-set-same (waitersOf n v ws) p x 0 (omega arith) ∙ y ∙ ap (λ (z : ℕ). bitOr z (2 ^ b)) (sym (getD-take v (drop (8 * n + 3 * v) ws) p 0 o ∙ getD-drop (8 * n + 3 * v) ws p 0))
       in
       record {
         state = record {
           room = S .room;
-          long = length-set ws (11 * n + p) x;
-          low = take-set-le (8 * n) ws (11 * n + p) x (omega arith);
-          high = drop-set-lt (12 * n) ws (11 * n + p) x (omega arith);
+          long = length-set ws (8 * n + 3 * v + p) x;
+          low = take-set-le (8 * n) ws (8 * n + 3 * v + p) x (omega arith);
+          high = drop-set-lt (8 * n + 4 * v) ws (8 * n + 3 * v + p) x (omega arith);
           resumes = rw (L, D, T) (S .resumes);
         };
         lengths = L;
@@ -75,8 +75,8 @@ module _ {n count v : ℕ} {pool ws : List ℕ} (S : State n count v pool ws ws)
   pub mark-adds : Adds n count v pool ws (markedAt n v j b ws) j b
   mark-adds = elim (decLt (getD (ranksOf n ws) j 0) v) [
     | yes o ↦
-        rw (← marks n v j b (getD (ranksOf n ws) j 0) ws refl o (bitOr (getD ws (11 * n + getD (ranksOf n ws) j 0) 0) (2 ^ b)) refl)
-        (mark-one (getD (ranksOf n ws) j 0) (bitOr (getD ws (11 * n + getD (ranksOf n ws) j 0) 0) (2 ^ b)) refl o refl)
+        rw (← marks n v j b (getD (ranksOf n ws) j 0) ws refl o (bitOr (getD ws (8 * n + 3 * v + getD (ranksOf n ws) j 0) 0) (2 ^ b)) refl)
+        (mark-one (getD (ranksOf n ws) j 0) (bitOr (getD ws (8 * n + 3 * v + getD (ranksOf n ws) j 0) 0) (2 ^ b)) refl o refl)
     | no o ↦
         rw (← marks-none n v j b (getD (ranksOf n ws) j 0) ws refl (omega arith))
         record { state = S; lengths = refl; stops = refl; keeps = λ k c t. t; adds = λ q. absurd (omega arith) }
@@ -88,17 +88,17 @@ size-other lens i x rank t d e = rw (getD-set-other lens i rank x 0 d) e
 
 -- a turn
 module _ {n count v : ℕ} {pool ws : List ℕ} (S : State n count v pool ws ws) (i b : ℕ) (h : i < v) where
-  pub turn-over : {ws′ : List ℕ} → State n count v pool ws ws′ × Steps n count v pool ws ws′ i Vis.Over × Beyond n ws ws′
+  pub turn-over : {ws′ : List ℕ} → State n count v pool ws ws′ × Steps n count v pool ws ws′ i Vis.Over × Beyond n v ws ws′
       → State n count v pool ws ws′ × Turns n count v pool ws ws′ i b Tur.Over
   turn-over a = (a .0, a .1)
 
-  pub turn-known : {ws′ : List ℕ} → State n count v pool ws ws′ × Steps n count v pool ws ws′ i Vis.Known × Beyond n ws ws′
+  pub turn-known : {ws′ : List ℕ} → State n count v pool ws ws′ × Steps n count v pool ws ws′ i Vis.Known × Beyond n v ws ws′
       → State n count v pool ws ws′ × Turns n count v pool ws ws′ i b Tur.Nothing
   turn-known a =
       (a .0, (ap (lengthsOf n v) (a .1 .0), record { own = λ z. absurd (a .1 .1 (sym (ap (λ (l : List ℕ). getD (lengthsOf n v l) i 0) (a .1 .0)) ∙ z)); others = λ t c d o r. rw (a .1 .0) r }, a .1 .2))
 
   -- it waits: the token at which it stopped is k, and its block is marked there
-  module _ {ws₁ : List ℕ} (k : ℕ) (a : State n count v pool ws ws₁ × Steps n count v pool ws ws₁ i (Vis.Blocked k) × Beyond n ws ws₁) {ws′ : List ℕ} (M : Adds n count v pool ws₁ ws′ k b) where
+  module _ {ws₁ : List ℕ} (k : ℕ) (a : State n count v pool ws ws₁ × Steps n count v pool ws ws₁ i (Vis.Blocked k) × Beyond n v ws ws₁) {ws′ : List ℕ} (M : Adds n count v pool ws₁ ws′ k b) where
     same-waiters : waitersOf n v ws₁ ≡ waitersOf n v ws
     same-waiters = ap (take v) (a .2)
 
@@ -120,7 +120,7 @@ module _ {n count v : ℕ} {pool ws : List ℕ} (S : State n count v pool ws ws)
           own = λ z.
               record {
                 token = k;
-                stop = rw stops (getD-set-same (stopsOf n v ws) i (suc k) 0 (omega (arith, column-length (S .room) (9 * n) (omega arith))));
+                stop = rw stops (getD-set-same (stopsOf n v ws) i (suc k) 0 (omega (arith, column-length (S .room) (8 * n + v) (omega arith))));
                 inside = a .1 .2;
                 lacks = rw lengths (a .1 .3);
                 marked = rw (← ranks) (M .adds);
@@ -140,12 +140,12 @@ module _ {n count v : ℕ} {pool ws : List ℕ} (S : State n count v pool ws ws)
     )
 
   -- it has a value now: the blocks of m waited for it
-  module _ {ws′ : List ℕ} (a : State n count v pool ws ws′ × Steps n count v pool ws ws′ i Vis.Valued × Beyond n ws ws′) (m : ℕ) (e : m ≡ getD ws′ (11 * n + i) 0) where
+  module _ {ws′ : List ℕ} (a : State n count v pool ws ws′ × Steps n count v pool ws ws′ i Vis.Valued × Beyond n v ws ws′) (m : ℕ) (e : m ≡ getD ws′ (8 * n + 3 * v + i) 0) where
     waiters : waitersOf n v ws′ ≡ waitersOf n v ws
     waiters = ap (take v) (a .2)
 
     is-waiters : m ≡ getD (waitersOf n v ws) i 0
-    is-waiters = e ∙ sym (getD-take v (drop (11 * n) ws′) i 0 h ∙ getD-drop (11 * n) ws′ i 0) ∙ ap (λ (l : List ℕ). getD l i 0) waiters
+    is-waiters = e ∙ sym (getD-take v (drop (8 * n + 3 * v) ws′) i 0 h ∙ getD-drop (8 * n + 3 * v) ws′ i 0) ∙ ap (λ (l : List ℕ). getD l i 0) waiters
 
     valued : getD (lengthsOf n v ws′) i 0 ≡ suc (a .1 .0)
     valued = rw (a .1 .2) (getD-set-same (lengthsOf n v ws) i (suc (a .1 .0)) 0 (omega (arith, column-length (S .room) (8 * n) (omega arith))))

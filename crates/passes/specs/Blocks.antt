@@ -23,12 +23,12 @@ Block w t b = (b * w ≤ t) × (t < b * w + w)
 
 -- by rank: the blocks in which a variable waits for the value
 abbrev pub waitersOf : ℕ → ℕ → List ℕ → List ℕ
-waitersOf n v ws = take v (drop (11 * n) ws)
+waitersOf n v ws = take v (drop (8 * n + 3 * v) ws)
 
 -- the workspace, where block b is marked at the variable to which token j refers
 unfoldable pub markedAt : ℕ → ℕ → ℕ → ℕ → List ℕ → List ℕ
 markedAt n v j b ws =
-    pick (ltb (getD (ranksOf n ws) j 0) v) (set ws (11 * n + getD (ranksOf n ws) j 0) (bitOr (getD ws (11 * n + getD (ranksOf n ws) j 0) 0) (2 ^ b))) ws
+    pick (ltb (getD (ranksOf n ws) j 0) v) (set ws (8 * n + 3 * v + getD (ranksOf n ws) j 0) (bitOr (getD ws (8 * n + 3 * v + getD (ranksOf n ws) j 0) 0) (2 ^ b))) ws
 
 -- Variable t waits: its sum stopped at this token, before the end `to` of its value; the token refers to no value, and block b is marked there
 pub record Waiting (v : ℕ) (ts : List Token) (ranks : List ℕ) (to : ℕ) (lens stops waiters : List ℕ) (t b : ℕ) : Type 0 where

@@ -1,5 +1,5 @@
 -- The passes on lengths: document 01, "Variables, then fields". Assumes nothing.
-use Prim.Native.Nat.{ℕ, zero, suc, _*_, _-_, _≤_, _<_}
+use Prim.Native.Nat.{ℕ, zero, suc, _+_, _*_, _-_, _≤_, _<_}
 use mathlib.Core.Path.{_≡_}
 use mathlib.Core.Bool.{true, false}
 use mathlib.Core.List.{List, _++_}
@@ -63,7 +63,7 @@ pub record Runs (n count v : ℕ) (pool ws ws′ : List ℕ) (r : Settled) (pass
   pub is-count : passes ≡ passCount (rulesIn n count v ws pool)
   pub long : length ws′ ≡ length ws
   pub low : take (8 * n) ws′ ≡ take (8 * n) ws
-  pub high : drop (12 * n) ws′ ≡ drop (12 * n) ws
+  pub high : drop (8 * n + 4 * v) ws′ ≡ drop (8 * n + 4 * v) ws
 
 -- how many lengths stay
 abbrev pub keptOf : Settled → ℕ → ℕ
@@ -71,14 +71,14 @@ keptOf Set.Resolved v = v
 keptOf (Set.TooLarge i) v = 0
 keptOf (Set.Lacks i j) v = 0
 
--- what the four columns from 8n on hold at the end: the lengths, where all have values, and zeros
+-- what the four columns of v entries from 8n on hold at the end: the lengths, where all have values, and zeros
 unfoldable pub columns : ℕ → Settles → List ℕ
-columns n (settled lens) = lens ++ replicate (4 * n - length lens) 0
-columns n (tooLarge i) = replicate (4 * n) 0
-columns n (lacks i m) = replicate (4 * n) 0
+columns v (settled lens) = lens ++ replicate (4 * v - length lens) 0
+columns v (tooLarge i) = replicate (4 * v) 0
+columns v (lacks i m) = replicate (4 * v) 0
 
 -- The answer, the number of passes, and the whole workspace
 pub record Resolves (n count v : ℕ) (pool ws ws′ : List ℕ) (r : Settled) (passes : ℕ) : Type 0 where
   pub is-answer : meaning n count v ws′ pool r ≡ resolveLens (rulesIn n count v ws pool)
   pub is-count : passes ≡ passCount (rulesIn n count v ws pool)
-  pub is-workspace : ws′ ≡ puts ws (8 * n) (columns n (resolveLens (rulesIn n count v ws pool)))
+  pub is-workspace : ws′ ≡ puts ws (8 * n) (columns v (resolveLens (rulesIn n count v ws pool)))

@@ -18,10 +18,10 @@ use Rattle.passes.specs.declared.visits.Settled.the-variants as Set
 
 -- by rank: the token at which the sum stopped, + 1, and the sum up to there
 abbrev pub stopsOf : ℕ → ℕ → List ℕ → List ℕ
-stopsOf n v ws = take v (drop (9 * n) ws)
+stopsOf n v ws = take v (drop (8 * n + v) ws)
 
 abbrev pub sumsOf : ℕ → ℕ → List ℕ → List ℕ
-sumsOf n v ws = take v (drop (10 * n) ws)
+sumsOf n v ws = take v (drop (8 * n + 2 * v) ws)
 
 -- where a visit goes on: at the value's first token, or where the last one stopped
 unfoldable pub resumeAt : ℕ → ℕ → ℕ
@@ -58,7 +58,7 @@ pub record State (n count v : ℕ) (pool ws₀ ws : List ℕ) : Type 0 where
   pub room : Room n count v ws₀
   pub long : length ws ≡ length ws₀
   pub low : take (8 * n) ws ≡ take (8 * n) ws₀
-  pub high : drop (12 * n) ws ≡ drop (12 * n) ws₀
+  pub high : drop (8 * n + 4 * v) ws ≡ drop (8 * n + 4 * v) ws₀
   pub resumes : (i : ℕ) → i < v
       → Resumes (lengthsOf n v ws) (rule n count v ws₀ pool i) (restOf n count v ws₀ pool i (getD (stopsOf n v ws) i 0)) (getD (sumsOf n v ws) i 0)
 
@@ -72,8 +72,8 @@ Visits n count v pool ws ws′ i (Vis.Blocked k) =
 Visits n count v pool ws ws′ i Vis.Valued =
     (t : ℕ) × (add (lengthsOf n v ws) 0 (rule n count v ws pool i) ≡ Sum.sum t) × (lengthsOf n v ws′ ≡ set (lengthsOf n v ws) i (suc t)) × (stopsOf n v ws′ ≡ stopsOf n v ws)
 
-abbrev pub Beyond : ℕ → List ℕ → List ℕ → Type 0
-Beyond n ws ws′ = drop (11 * n) ws′ ≡ drop (11 * n) ws
+abbrev pub Beyond : ℕ → ℕ → List ℕ → List ℕ → Type 0
+Beyond n v ws ws′ = drop (8 * n + 3 * v) ws′ ≡ drop (8 * n + 3 * v) ws
 
 -- how many have no value
 unfoldable pub zeros : List ℕ → ℕ

@@ -1,4 +1,4 @@
-// Turns of variables, and who waits for whom. The variables stand in 32 blocks by rank, and a set of blocks is the bits of a word. At 11n the workspace
+// Turns of variables, and who waits for whom. The variables stand in 32 blocks by rank, and a set of blocks is the bits of a word. At 8n + 3v the workspace
 // has by rank the blocks in which a variable waits for this one's value: when the value is found, only they can find something new.
 ghost use mathlib.Core.Path.{_≡_};
 ghost use Prim.Native.Nat.{_<_};
@@ -32,8 +32,8 @@ fn mark(ws: &mut [u32], n: usize, count: usize, v: usize, j: usize, b: u32)
 {
     let p = cell(ws, 7 * n, n, j);
     if p < v {
-        let old = ws[11 * n + p];
-        ws[11 * n + p] = old | (1 << b);
+        let old = ws[8 * n + 3 * v + p];
+        ws[8 * n + 3 * v + p] = old | (1 << b);
     }
 }
 
@@ -58,6 +58,6 @@ pub fn turn(
             mark(ws, n, count, v, j, b);
             Turned::Nothing
         }
-        Visited::Valued => Turned::Wakes(ws[11 * n + i]),
+        Visited::Valued => Turned::Wakes(ws[8 * n + 3 * v + i]),
     }
 }

@@ -115,10 +115,10 @@ pub fn resolve_variables(ws: &mut [u32], pool: &[u8], n: usize, count: usize, v:
     requires { ⌜ Room n count v (now ws) ⌝ }
     ensures { λ r. ⌜ Resolves n count v (now (pool .entry)) (now (ws .entry)) (now (ws .exit)) (r .settled) (r .passes) ⌝ }
 {
-    zero_from(ws, 8 * n, 4 * n);
+    zero_from(ws, 8 * n, 4 * v);
     let outcome = run(ws, pool, n, count, v, v / 32 + 1);
     let settled = outcome.settled;
     let k = kept(settled, v);
-    zero_from(ws, 8 * n + k, 4 * n - k);
+    zero_from(ws, 8 * n + k, 4 * v - k);
     outcome
 }

@@ -1,6 +1,6 @@
 // Visits of variables, by rank. A visit of one that lacks a value goes on where the last one stopped, so a visit that finds nothing new is cheap.
-// By rank the workspace has at 8n the length of the value + 1 (0 for none yet), at 9n the token at which the sum stopped + 1 (0 before the first visit),
-// and at 10n the sum up to there.
+// By rank the workspace has at 8n the length of the value + 1 (0 for none yet), at 8n + v the token at which the sum stopped + 1 (0 before the first visit),
+// and at 8n + 2v the sum up to there.
 ghost use mathlib.Core.Path.{_≡_};
 ghost use Prim.Native.Nat.{_<_};
 ghost use lib.ListN.{getD};
@@ -34,8 +34,8 @@ fn resume(ws: &[u32], pool: &[u8], n: usize, count: usize, v: usize, i: usize) -
 {
     let key = cell(ws, 4 * n, v, i);
     let to = cell(ws, 6 * n, n, key);
-    let stop = cell(ws, 9 * n, v, i);
-    let sum = cell(ws, 10 * n, v, i);
+    let stop = cell(ws, 8 * n + v, v, i);
+    let sum = cell(ws, 8 * n + 2 * v, v, i);
     if stop == 0 {
         let from = cell(ws, 5 * n, n, key);
         return sum_on(ws, pool, n, count, v, from, to, sum);
@@ -46,14 +46,14 @@ fn resume(ws: &[u32], pool: &[u8], n: usize, count: usize, v: usize, i: usize) -
 // Visits variable i, which has no value yet.
 fn visit(ws: &mut [u32], pool: &[u8], n: usize, count: usize, v: usize, i: usize) -> Visited
     requires { ⌜ State n count v (now pool) (now ws) (now ws) × (i < v) × (getD (lengthsOf n v (now ws)) i 0 ≡ 0) ⌝ }
-    ensures { λ r. ⌜ State n count v (now (pool .entry)) (now (ws .entry)) (now (ws .exit)) × Visits n count v (now (pool .entry)) (now (ws .entry)) (now (ws .exit)) i r × Beyond n (now (ws .entry)) (now (ws .exit)) ⌝ }
+    ensures { λ r. ⌜ State n count v (now (pool .entry)) (now (ws .entry)) (now (ws .exit)) × Visits n count v (now (pool .entry)) (now (ws .entry)) (now (ws .exit)) i r × Beyond n v (now (ws .entry)) (now (ws .exit)) ⌝ }
 {
     let a = resume(ws, pool, n, count, v, i);
     match a {
         Advance::Over => Visited::Over,
         Advance::Missing(j, sum) => {
-            ws[9 * n + i] = (j + 1) as u32;
-            ws[10 * n + i] = sum as u32;
+            ws[8 * n + v + i] = (j + 1) as u32;
+            ws[8 * n + 2 * v + i] = sum as u32;
             Visited::Blocked(j)
         }
         Advance::Sum(sum) => {
@@ -66,7 +66,7 @@ fn visit(ws: &mut [u32], pool: &[u8], n: usize, count: usize, v: usize, i: usize
 // Variable i's turn in a pass.
 pub fn step(ws: &mut [u32], pool: &[u8], n: usize, count: usize, v: usize, i: usize) -> Visited
     requires { ⌜ State n count v (now pool) (now ws) (now ws) × (i < v) ⌝ }
-    ensures { λ r. ⌜ State n count v (now (pool .entry)) (now (ws .entry)) (now (ws .exit)) × Steps n count v (now (pool .entry)) (now (ws .entry)) (now (ws .exit)) i r × Beyond n (now (ws .entry)) (now (ws .exit)) ⌝ }
+    ensures { λ r. ⌜ State n count v (now (pool .entry)) (now (ws .entry)) (now (ws .exit)) × Steps n count v (now (pool .entry)) (now (ws .entry)) (now (ws .exit)) i r × Beyond n v (now (ws .entry)) (now (ws .exit)) ⌝ }
 {
     if cell(ws, 8 * n, v, i) == 0 {
         return visit(ws, pool, n, count, v, i);

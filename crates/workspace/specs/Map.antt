@@ -5,8 +5,8 @@
 --   6n .. 7n      by key token: the token past the value (of a list: how many arguments it has)
 --                 by row of an argument: its first token, and the token past it. The rows of a list stand at the tokens of its value.
 --   7n .. 8n      by token: the rank of the variable that it refers to, the number of variables where it is none; 0 for other tokens
---   8n .. 9n      by rank: the length of the value + 1, 0 for none
---   9n .. 12n     scratch of the passes, then the writer's
+--   8n .. 8n+v    by rank: the length of the value + 1, 0 for none
+--   8n+v .. 8n+4v scratch of the passes, for v variables; 9n .. 12n then the writer's
 --   12n .. 12n+11 by field number: the field's key token + 1, 0 where the field is absent
 use Prim.Native.Nat.{ℕ, zero, suc, _+_, _*_, _-_, _≤_, _<_}
 use mathlib.Core.Path.{_≡_}

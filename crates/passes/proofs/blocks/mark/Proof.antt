@@ -13,11 +13,17 @@ cell-requires c κs = search needs
 mul-old : tie.Need-mul-old
 mul-old c = search needs
 
+mul-old-2 : tie.Need-mul-old-2
+mul-old-2 c = search needs
+
 add-old : tie.Need-add-old
 add-old c = search needs
 
-mul-old-2 : tie.Need-mul-old-2
-mul-old-2 c = search needs
+add-old-2 : tie.Need-add-old-2
+add-old-2 c = search needs
+
+mul-old-3 : tie.Need-mul-old-3
+mul-old-3 c = search needs
 
 slice-read-old : tie.Need-slice-read-old
 slice-read-old c = search needs
@@ -28,11 +34,17 @@ shl-ws c = search needs
 mul-ws : tie.Need-mul-ws
 mul-ws c = search needs
 
+mul-ws-2 : tie.Need-mul-ws-2
+mul-ws-2 c = search needs
+
 add-ws : tie.Need-add-ws
 add-ws c = search needs
 
-mul-ws-2 : tie.Need-mul-ws-2
-mul-ws-2 c = search needs
+add-ws-2 : tie.Need-add-ws-2
+add-ws-2 c = search needs
+
+mul-ws-3 : tie.Need-mul-ws-3
+mul-ws-3 c = search needs
 
 slice-write-ws : tie.Need-slice-write-ws
 slice-write-ws c = search needs
@@ -56,13 +68,17 @@ mark-spec =
     mul-cell
     cell-requires
     mul-old
-    add-old
     mul-old-2
+    add-old
+    add-old-2
+    mul-old-3
     slice-read-old
     shl-ws
     mul-ws
-    add-ws
     mul-ws-2
+    add-ws
+    add-ws-2
+    mul-ws-3
     slice-write-ws
     same-length
     returns

@@ -26,14 +26,20 @@ enum-told-3 c = search needs
 mul-t16 : tie.Need-mul-t16
 mul-t16 c = search needs
 
-add-t17 : tie.Need-add-t17
-add-t17 c = search needs
+mul-t17 : tie.Need-mul-t17
+mul-t17 c = search needs
 
-mul-t18 : tie.Need-mul-t18
-mul-t18 c = search needs
+add-t18 : tie.Need-add-t18
+add-t18 c = search needs
 
-slice-read-t20 : tie.Need-slice-read-t20
-slice-read-t20 c = search needs
+add-t19 : tie.Need-add-t19
+add-t19 c = search needs
+
+mul-t20 : tie.Need-mul-t20
+mul-t20 c = search needs
+
+slice-read-t22 : tie.Need-slice-read-t22
+slice-read-t22 c = search needs
 
 same-length : tie.Need-same-length
 same-length c = search needs
@@ -70,9 +76,11 @@ turn-spec =
     mark-requires
     enum-told-3
     mul-t16
-    add-t17
-    mul-t18
-    slice-read-t20
+    mul-t17
+    add-t18
+    add-t19
+    mul-t20
+    slice-read-t22
     same-length
     returns
     same-length-2

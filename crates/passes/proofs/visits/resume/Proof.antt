@@ -18,17 +18,26 @@ cell-requires-2 c κs = search needs
 mul-cell-3 : tie.Need-mul-cell-3
 mul-cell-3 c = search needs
 
+add-cell : tie.Need-add-cell
+add-cell c = search needs
+
 cell-requires-3 : tie.Need-cell-requires-3
 cell-requires-3 c κs = search needs
 
 mul-cell-4 : tie.Need-mul-cell-4
 mul-cell-4 c = search needs
 
+mul-cell-5 : tie.Need-mul-cell-5
+mul-cell-5 c = search needs
+
+add-cell-2 : tie.Need-add-cell-2
+add-cell-2 c = search needs
+
 cell-requires-4 : tie.Need-cell-requires-4
 cell-requires-4 c κs = search needs
 
-mul-cell-5 : tie.Need-mul-cell-5
-mul-cell-5 c = search needs
+mul-cell-6 : tie.Need-mul-cell-6
+mul-cell-6 c = search needs
 
 cell-requires-5 : tie.Need-cell-requires-5
 cell-requires-5 c κs = search needs
@@ -57,10 +66,13 @@ resume-spec =
     mul-cell-2
     cell-requires-2
     mul-cell-3
+    add-cell
     cell-requires-3
     mul-cell-4
-    cell-requires-4
     mul-cell-5
+    add-cell-2
+    cell-requires-4
+    mul-cell-6
     cell-requires-5
     sum-on-requires
     returns

@@ -27,6 +27,9 @@ mul-ws c = search needs
 add-ws-2 : tie.Need-add-ws-2
 add-ws-2 c = search needs
 
+add-ws-3 : tie.Need-add-ws-3
+add-ws-3 c = search needs
+
 mul-ws-2 : tie.Need-mul-ws-2
 mul-ws-2 c = search needs
 
@@ -39,11 +42,17 @@ cast-ws-2 c = omega (arith, stop-fits (c .before .before .before .before .before
 mul-ws-3 : tie.Need-mul-ws-3
 mul-ws-3 c = search needs
 
-add-ws-3 : tie.Need-add-ws-3
-add-ws-3 c = search needs
-
 mul-ws-4 : tie.Need-mul-ws-4
 mul-ws-4 c = search needs
+
+add-ws-4 : tie.Need-add-ws-4
+add-ws-4 c = search needs
+
+add-ws-5 : tie.Need-add-ws-5
+add-ws-5 c = search needs
+
+mul-ws-5 : tie.Need-mul-ws-5
+mul-ws-5 c = search needs
 
 slice-write-ws-2 : tie.Need-slice-write-ws-2
 slice-write-ws-2 c = simp length-set (omega (arith, c .before .before .before .before .before .before .before .pre .0 .room .room, few (c .before .before .before .before .before .before .before .pre .0 .room), c .before .before .before .before .before .before .before .pre .1))
@@ -51,20 +60,20 @@ slice-write-ws-2 c = simp length-set (omega (arith, c .before .before .before .b
 enum-known-a-2 : tie.Need-enum-known-a-2
 enum-known-a-2 c = search needs
 
-add-ws-4 : tie.Need-add-ws-4
-add-ws-4 c = omega (arith, value-fits (c .before .before .before .before .before .before .before .pre .0) (c .before .before .before .before .before .before .before .args .i) (c .before .before .before .before .before .before .before .pre .1) _ (sym (c .before .a2 .given .1) ∙ c .before .before .before .resume .ensures))
+add-ws-6 : tie.Need-add-ws-6
+add-ws-6 c = omega (arith, value-fits (c .before .before .before .before .before .before .before .pre .0) (c .before .before .before .before .before .before .before .args .i) (c .before .before .before .before .before .before .before .pre .1) _ (sym (c .before .a2 .given .1) ∙ c .before .before .before .resume .ensures))
 
 cast-ws-3 : tie.Need-cast-ws-3
 cast-ws-3 c = omega (arith, value-fits (c .before .before .before .before .before .before .before .pre .0) (c .before .before .before .before .before .before .before .args .i) (c .before .before .before .before .before .before .before .pre .1) _ (sym (c .before .a2 .given .1) ∙ c .before .before .before .resume .ensures))
 
-mul-ws-5 : tie.Need-mul-ws-5
-mul-ws-5 c = search needs
-
-add-ws-5 : tie.Need-add-ws-5
-add-ws-5 c = search needs
-
 mul-ws-6 : tie.Need-mul-ws-6
 mul-ws-6 c = search needs
+
+add-ws-7 : tie.Need-add-ws-7
+add-ws-7 c = search needs
+
+mul-ws-7 : tie.Need-mul-ws-7
+mul-ws-7 c = search needs
 
 slice-write-ws-3 : tie.Need-slice-write-ws-3
 slice-write-ws-3 c = search needs
@@ -98,19 +107,22 @@ visit-spec =
     cast-ws
     mul-ws
     add-ws-2
+    add-ws-3
     mul-ws-2
     slice-write-ws
     cast-ws-2
     mul-ws-3
-    add-ws-3
     mul-ws-4
+    add-ws-4
+    add-ws-5
+    mul-ws-5
     slice-write-ws-2
     enum-known-a-2
-    add-ws-4
+    add-ws-6
     cast-ws-3
-    mul-ws-5
-    add-ws-5
     mul-ws-6
+    add-ws-7
+    mul-ws-7
     slice-write-ws-3
     same-length
     returns
