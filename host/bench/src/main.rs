@@ -1,8 +1,9 @@
 //! Times the proved reader and upstream's Rust in one process, on the same texts.
 //!
-//! Usage: `bench [write] [FAMILY ..]`, without families for all. With `write`, the result goes to `docs/SPEED.md` too.
-//! Build it with `--release`. Times on different machines say nothing; the ratios do.
+//! Usage: `bench [write] [FAMILY ..]`, without families for all. With `write`, the result goes to `docs/SPEED.md` too, with the
+//! reader's instructions as valgrind counts them. Build it with `--release`. Times on different machines say nothing; the ratios do.
 
+mod count;
 mod families;
 
 use cabbagelute::{PkgConfig, raw};
@@ -13,14 +14,22 @@ use std::path::Path;
 use std::process::ExitCode;
 use std::time::{Duration, Instant};
 
-/// For how long each of the four is timed, at least once.
-const BUDGET: Duration = Duration::from_millis(1500);
+/// For how long each of the four is timed in a round, at least once.
+const BUDGET: Duration = Duration::from_millis(500);
+
+/// How many rounds there are. Their ratios show how far runs differ.
+const ROUNDS: usize = 3;
 
 /// The shortest time that is taken as one measurement.
 const MEASUREMENT: Duration = Duration::from_millis(5);
 
 fn main() -> ExitCode {
     let mut asked: Vec<String> = std::env::args().skip(1).collect();
+    if let [word, name, at] = asked.as_slice() {
+        if word == count::COUNTED {
+            return run_counted(name, at);
+        }
+    }
     let write = asked.first().is_some_and(|word| word == "write");
     if write {
         asked.remove(0);
@@ -40,7 +49,13 @@ fn main() -> ExitCode {
     );
     for family in FAMILIES {
         if asked.is_empty() || asked.iter().any(|name| name == family.name) {
-            let measured = measure(family);
+            let mut measured = measure(family);
+            if write {
+                if let Err(error) = count_instructions(family, &mut measured) {
+                    eprintln!("bench: {error}");
+                    return ExitCode::FAILURE;
+                }
+            }
             for row in &measured {
                 println!("{row}");
             }
@@ -67,10 +82,16 @@ struct Row {
     times: [f64; 3],
     /// Microseconds for zeroing the workspace alone, which each call must do.
     zeroing: f64,
+    /// How many times as fast as the Rust the reader was in the round where that was least, and where it was most.
+    range: [f64; 2],
     /// How many times the reader's time grew from the row before.
     growth: Option<f64>,
     /// How many times that of zeroing alone grew.
     zeroing_growth: Option<f64>,
+    /// The reader's instructions, where they were counted.
+    instructions: Option<u64>,
+    /// How many times they grew.
+    instructions_growth: Option<f64>,
     verdict: String,
 }
 
@@ -80,10 +101,11 @@ impl Row {
         let [rust, reader, whole] = self.times;
         [rust / reader, rust / whole]
     }
+}
 
-    fn shown_growth(&self) -> String {
-        self.growth.map_or(String::new(), |growth| format!("{growth:.2}"))
-    }
+/// A growth, if there is one.
+fn shown(growth: Option<f64>) -> String {
+    growth.map_or(String::new(), |growth| format!("{growth:.2}"))
 }
 
 impl std::fmt::Display for Row {
@@ -96,22 +118,67 @@ impl std::fmt::Display for Row {
             self.family,
             self.bytes,
             self.zeroing,
-            self.shown_growth(),
+            shown(self.growth),
             self.verdict
         )
     }
 }
 
-fn measure(family: &Family) -> Vec<Row> {
-    let sets: Vec<Vec<Vec<u8>>> = match family.texts {
+/// The texts of each size of the family.
+fn sets(family: &Family) -> Vec<Vec<Vec<u8>>> {
+    match family.texts {
         Texts::Growing(make) => SIZES.iter().map(|bytes| vec![make(*bytes).into_bytes()]).collect(),
         Texts::One(make) => vec![vec![make().into_bytes()]],
         Texts::Many(make) => vec![make()],
+    }
+}
+
+/// One call for each text of the family at the size of this place, for valgrind to count.
+fn run_counted(name: &str, at: &str) -> ExitCode {
+    let family = FAMILIES.iter().find(|family| family.name == name);
+    let texts =
+        family.zip(at.parse::<usize>().ok()).and_then(|(family, at)| sets(family).into_iter().nth(at));
+    let Some(texts) = texts else {
+        eprintln!("bench: there is no size {at} of a family {name}");
+        return ExitCode::FAILURE;
     };
+    let mut buffers = Buffers::for_texts(&texts);
+    for text in texts.iter().filter(|text| std::str::from_utf8(text).is_ok()) {
+        black_box(counted(&mut buffers, text));
+    }
+    ExitCode::SUCCESS
+}
+
+/// The call that is counted, by this name.
+#[inline(never)]
+fn counted(buffers: &mut Buffers, text: &[u8]) -> raw::Outcome {
+    buffers.read(text)
+}
+
+/// Fills in the instructions of a family's rows.
+fn count_instructions(family: &Family, rows: &mut [Row]) -> Result<(), String> {
+    let mut before: Option<u64> = None;
+    for (at, row) in rows.iter_mut().enumerate() {
+        let now = count::instructions(family.name, at)?;
+        row.instructions = Some(now);
+        row.instructions_growth = before.map(|before| now as f64 / before as f64);
+        before = Some(now);
+    }
+    Ok(())
+}
+
+fn measure(family: &Family) -> Vec<Row> {
+    let sets = sets(family);
     let mut rows: Vec<Row> = Vec::new();
     let last = sets.len() - 1;
     for (at, texts) in sets.iter().enumerate() {
-        let [rust, reader, whole, zeroing] = time(texts);
+        let rounds: [[f64; 4]; ROUNDS] = std::array::from_fn(|_| time(texts));
+        let [rust, reader, whole, zeroing] = best_of(&rounds);
+        let ratios = rounds.map(|[rust, reader, ..]| rust / reader);
+        let range = [
+            ratios.iter().copied().fold(f64::INFINITY, f64::min),
+            ratios.iter().copied().fold(0.0, f64::max),
+        ];
         let growth = rows.last().map(|before| reader / before.times[1]);
         let zeroing_growth = rows.last().map(|before| zeroing / before.zeroing);
         let bytes = texts.iter().map(Vec::len).sum();
@@ -121,14 +188,22 @@ fn measure(family: &Family) -> Vec<Row> {
             bytes,
             times,
             zeroing,
+            range,
             growth,
             zeroing_growth,
+            instructions: None,
+            instructions_growth: None,
             verdict: String::new(),
         };
         row.verdict = verdict(family, &row, at == last);
         rows.push(row);
     }
     rows
+}
+
+/// The best time of each of the four.
+fn best_of(rounds: &[[f64; 4]]) -> [f64; 4] {
+    std::array::from_fn(|which| rounds.iter().map(|round| round[which]).fold(f64::INFINITY, f64::min))
 }
 
 /// What the bars say of a row. The ratio counts at the largest size.
@@ -245,8 +320,8 @@ Made in `host/` by
     cargo run --release -p bench -- write
 
 Upstream's Rust and the proved reader in one process, both x86-64, on the same texts, all built for release. The four take
-turns, and of each the best turn counts. Times are in microseconds and say little on another machine; the ratios should hold.
-Processor{}.
+turns, and of each the best turn of {ROUNDS} rounds counts. Times are in microseconds and say little on another machine; the ratios
+should hold. Processor{}.
 
 - Rust: upstream's `PkgConfig::parse`, and dropping what it gives.
 - reader: `cabbagelute_read_in` alone. Its buffers were made once and are not cleared between calls.
@@ -254,25 +329,30 @@ Processor{}.
   strings, which are dropped.
 - zeroing: a fill of the first 12n + 64 workspace entries with 0 and nothing else. Each call ends with it (document 01,
   \"Buffers\"), so no reader takes less.
+- rounds: the least and the greatest Rust / reader of the {ROUNDS} rounds, which shows how far runs differ.
+- instructions: those of the reader's calls as valgrind counts them, without fills of memory. No noise is in them.
 
 The verdict is about the reader: how many times as fast as the Rust at the largest size, and how its time grows where the text
-doubles.
+doubles. The last number but the verdict is how its instructions grow.
 
-| family | bytes | Rust | reader | crate | zeroing | Rust / reader | Rust / crate | growth | verdict |
-|---|---|---|---|---|---|---|---|---|---|
+| family | bytes | Rust | reader | crate | zeroing | Rust / reader | rounds | Rust / crate | growth | instructions | growth | verdict |
+|---|---|---|---|---|---|---|---|---|---|---|---|---|
 ",
         processor.trim_start()
     );
     for row in rows {
         let [rust, reader, whole] = row.times;
         let [reader_ratio, crate_ratio] = row.ratios();
+        let [low, high] = row.range;
         writeln!(
             page,
-            "| {} | {} | {rust:.1} | {reader:.1} | {whole:.1} | {:.1} | {reader_ratio:.2} | {crate_ratio:.2} | {} | {} |",
+            "| {} | {} | {rust:.1} | {reader:.1} | {whole:.1} | {:.1} | {reader_ratio:.2} | {low:.2} to {high:.2} | {crate_ratio:.2} | {} | {} | {} | {} |",
             row.family,
             row.bytes,
             row.zeroing,
-            row.shown_growth(),
+            shown(row.growth),
+            row.instructions.map_or(String::new(), |count| count.to_string()),
+            shown(row.instructions_growth),
             row.verdict
         )
         .expect("a string takes all");
@@ -330,8 +410,10 @@ fn reason(row: &Row) -> String {
                              V\u{b2} / 2 entries in all"
                 .to_owned(),
             _ => format!(
-                "zeroing alone grows {:.2} times, where the workspace outgrows a cache",
-                row.zeroing_growth.unwrap_or(1.0)
+                "the reader's instructions grow {:.2} times, but zeroing alone takes {:.2} times as long, where the workspace \
+                 outgrows a cache",
+                row.instructions_growth.unwrap_or(f64::NAN),
+                row.zeroing_growth.unwrap_or(f64::NAN)
             ),
         });
     }
@@ -350,14 +432,20 @@ mod tests {
             bytes: 65_535,
             times: [50.0, 200.0, 300.0],
             zeroing: 100.0,
+            range: [0.24, 0.26],
             growth: Some(2.5),
             zeroing_growth: Some(3.0),
+            instructions: Some(4_000_000),
+            instructions_growth: Some(2.01),
             verdict: verdict.to_owned(),
         };
         let page = page(&[row("comment", "bar 0.5 MISSED, growth 2.3 MISSED"), row("reversed", "")]);
         assert!(page.contains("zeroing alone is 100 of the reader's 200 microseconds"), "{page}");
         assert!(page.contains("no reader is more than 0.50 times as fast"), "{page}");
-        assert!(page.contains("zeroing alone grows 3.00 times"), "{page}");
+        assert!(
+            page.contains("instructions grow 2.01 times, but zeroing alone takes 3.00 times as long"),
+            "{page}"
+        );
         assert!(page.contains("- reversed: 2.50 for each doubling."), "{page}");
     }
 }
