@@ -7,22 +7,17 @@ use native.Mathlib.Omega.{arith}
 use lib.ListN.{length, getD, take, drop, length-append}
 use Rattle.rules.specs.Bytes.{toLittle}
 use Rattle.rules.specs.Records.{recordBytes, argumentRecords}
-use Rattle.rules.proofs.Lengths.{Sum, add, add-is, sumOf}
 use Rattle.scan.specs.Stores.{puts}
 use Rattle.scan.proofs.Stores.{length-puts, puts-puts}
 use Rattle.scan.proofs.Littles.{length-little}
 use Rattle.tokens.specs.Entries.{decode}
 use Rattle.workspace.specs.Map.{Room, ranksOf, lengthsOf, piecesBetween}
-use Rattle.passes.specs.Sums.{sizeAt, advance}
-use Rattle.passes.specs.declared.sums.Advance.{Advance}
-use Rattle.passes.specs.declared.sums.Advance.the-variants as Adv
-use Rattle.passes.proofs.Advances.{Advances, advances}
 use Rattle.writer.specs.Tables.{Tables, tablesIn, pieces, valueBetween}
 use Rattle.writer.specs.Writing.{Ready, Writable, Written}
 use Rattle.writer.proofs.Pieces.{tables-same, room-same}
-use Rattle.writer.proofs.Uses.{none-written, bytes-written, and-then, expanded}
+use Rattle.writer.proofs.Runs.{held-more}
+use Rattle.writer.proofs.Uses.{none-written, bytes-written, and-then, before-written, expanded}
 use Rattle.records.specs.Contents.{valuesFrom, Valued, Listed}
-use Rattle.records.specs.Measuring.{summed}
 use Rattle.records.specs.Recording.{head, listBytes, Standing}
 
 pub headed : (out out₁ out₂ : List ℕ) (at size kind : ℕ) → out₁ ≡ puts out at (toLittle 4 size) → out₂ ≡ puts out₁ (at + 4) (toLittle 2 kind) → out₂ ≡ puts out at (head size kind)
@@ -37,54 +32,37 @@ pub record-long : (kind : ℕ) (bs : List ℕ) → length (recordBytes kind bs) 
 unfolding recordBytes
 record-long kind bs = length-append (head (length bs) kind) bs ∙ ap (λ (m : ℕ). m + length bs) (head-long (length bs) kind)
 
--- the sum of the tokens is the length of their value
-module _ (n count v : ℕ) (ws pool : List ℕ) (from to : ℕ) (ready : Ready count v (tablesIn n count v ws pool)) (valued : Valued count (tablesIn n count v ws pool) from to) where
-  is-sum : add (lengthsOf n v ws) 0 (piecesBetween (decode count ws pool) (ranksOf n ws) from to) ≡ Sum.sum (length (valueBetween (tablesIn n count v ws pool) from to))
-  unfolding sumOf
-  is-sum =
-      ap (λ (l : List ℕ). add l 0 (piecesBetween (decode count ws pool) (ranksOf n ws) from to)) (ready .lengths)
-      ∙ add-is (tablesIn n count v ws pool .values) [] (piecesBetween (decode count ws pool) (ranksOf n ws) from to) ∙ ap sumOf (valued .expands)
-
-  by : (a : Advance) → Advances (decode count ws pool) (ranksOf n ws) (lengthsOf n v ws) to from 0 a → summed a ≡ length (valueBetween (tablesIn n count v ws pool) from to)
-  unfolding summed
-  by Adv.Over h =
-      let y : Sum.over ≡ Sum.sum (length (valueBetween (tablesIn n count v ws pool) from to)) = sym h ∙ is-sum in
-      let z : _≡_ {A = ℕ} 0 1 = cc in
-      absurd (omega arith)
-  by (Adv.Missing j s) h = let y = sym (h .3) ∙ is-sum in let z : _≡_ {A = ℕ} 0 1 = cc in absurd (omega arith)
-  by (Adv.Sum x) h = let y : Sum.sum x ≡ Sum.sum (length (valueBetween (tablesIn n count v ws pool) from to)) = sym (h .1) ∙ is-sum in cc
-
-  pub size-is : (size : ℕ) → size ≡ summed (advance (sizeAt n count v ws pool) from 0 (to - from)) → size ≡ length (valueBetween (tablesIn n count v ws pool) from to)
-  size-is size e = e ∙ by (advance (sizeAt n count v ws pool) from 0 (to - from)) (advances (decode count ws pool) (ranksOf n ws) (lengthsOf n v ws) to from 0 (omega arith))
-
--- a value's record: its head, then the value
+-- a value's record: the value, and its head before it
 module _ {n count v : ℕ} {t : Tables} {ws out : List ℕ} (at kind from to : ℕ)
     (s : Standing n count v t ws out at (recordBytes kind (valueBetween t from to)) × Valued count t from to) where
   pub head-fits : at + 6 ≤ length out
   head-fits = omega (arith, s .0 .fits, record-long kind (valueBetween t from to))
 
-  module _ (size : ℕ) (se : size ≡ length (valueBetween t from to)) (out₁ : List ℕ) (e : out₁ ≡ puts out at (head size kind)) where
-    past-head : Written n v t ws out at (head size kind) ws out₁ (at + 6)
-    past-head = let z = head-long size kind in rw e (rw z at (bytes-written {n = n} {v = v} {t = t} {ws = ws} {out = out} {at = at} (head size kind) (s .0 .remembered)))
+  pub value-fits : length (t .keys) ≡ v → Writable n count v t ws out (at + 6) from to
+  value-fits keys =
+      let r = record-long kind (valueBetween t from to) in
+      record {
+        room = s .0 .room;
+        ready = s .0 .ready;
+        in-table = s .1 .in-table;
+        known = expanded (s .0 .ready) keys (pieces t from to) (valueBetween t from to) (s .1 .expands) .0;
+        fits = omega (arith, s .0 .fits);
+        small = omega (arith, s .0 .small);
+        remembered = held-more n v t ws out at (at + 6) (omega arith) (s .0 .remembered);
+      }
 
-    pub value-fits : length (t .keys) ≡ v → Writable n count v t ws out₁ (at + 6) from to
-    value-fits keys =
-        let l : length out₁ ≡ length out = rw e (length-puts out at (head size kind)) in
-        let r = record-long kind (valueBetween t from to) in
-        record {
-          room = s .0 .room;
-          ready = s .0 .ready;
-          in-table = s .1 .in-table;
-          known = expanded (s .0 .ready) keys (pieces t from to) (valueBetween t from to) (s .1 .expands) .0;
-          fits = omega (arith, s .0 .fits);
-          small = omega (arith, s .0 .small);
-          remembered = past-head .remembered;
-        }
+  module _ {ws₁ out₁ : List ℕ} {at₁ : ℕ} (w : Written n v t ws out (at + 6) (valueBetween t from to) ws₁ out₁ at₁) where
+    pub head-fits-still : at + 6 ≤ length out₁
+    head-fits-still = omega (arith, head-fits, ap length (w .bytes) ∙ length-puts out (at + 6) (valueBetween t from to))
 
-    pub recorded : {ws₂ out₂ : List ℕ} {at₂ : ℕ} → Written n v t ws out₁ (at + 6) (valueBetween t from to) ws₂ out₂ at₂
-        → Written n v t ws out at (recordBytes kind (valueBetween t from to)) ws₂ out₂ at₂
+    pub recorded : (size : ℕ) → size ≡ at₁ - (at + 6) → (out₂ : List ℕ) → out₂ ≡ puts out₁ at (head size kind)
+        → Written n v t ws out at (recordBytes kind (valueBetween t from to)) ws₁ out₂ at₁
     unfolding recordBytes
-    recorded {ws₂} {out₂} {at₂} w = subst (λ (m : ℕ). Written n v t ws out at (head m kind ++ valueBetween t from to) ws₂ out₂ at₂) se (and-then past-head w)
+    recorded size se out₂ e =
+        let l : size ≡ length (valueBetween t from to) = omega (arith, w .moved) in
+        let z = head-long size kind in
+        rw e (subst (λ (m : ℕ). Written n v t ws out at (head m kind ++ valueBetween t from to) ws₁ (puts out₁ at (head size kind)) at₁) l
+        (before-written {n = n} {v = v} {t = t} {ws = ws} {out = out} {at = at} (head size kind) (s .0 .remembered) (rw z w)))
 
 -- the arguments from the i-th on are left
 pub record Listing (n count v : ℕ) (pool : List ℕ) (t : Tables) (ws₀ out₀ : List ℕ) (at₀ row rows : ℕ) (ws out : List ℕ) (p i : ℕ) : Type 0 where

@@ -16,7 +16,7 @@ use Rattle.passes.specs.Sums.{top, sizeAt, advance}
 use Rattle.passes.specs.declared.sums.Advance.{Advance}
 use Rattle.passes.specs.declared.sums.Advance.the-variants as Adv
 use Rattle.passes.proofs.Advances.{advances}
-use Rattle.records.specs.Measuring.{onSum, onNeed, summed, sumOfRow, measureRows, measureEntry, measureFields}
+use Rattle.records.specs.Measuring.{onSum, onNeed, sumOfRow, measureRows, measureEntry, measureFields}
 use Rattle.records.specs.declared.measure.Measured.{Measured}
 use Rattle.records.specs.declared.measure.Measured.the-variants.{Need, Undefined, TooLarge}
 
@@ -30,10 +30,6 @@ cell-small ws base n k h = elim (decLt k n) [
 -- no sum is above the limit
 pub sum-small : (n count v : ℕ) (ws pool : List ℕ) (from to x : ℕ) → Adv.Sum x ≡ advance (sizeAt n count v ws pool) from 0 (to - from) → x ≤ top
 sum-small n count v ws pool from to x e = (rw (← e) at (advances (decode count ws pool) (ranksOf n ws) (lengthsOf n v ws) to from 0 (omega arith))) .0
-
-pub is-summed : (a : Advance) (x : ℕ) → Adv.Sum x ≡ a → x ≡ summed a
-unfolding summed
-is-summed a x e = rw (← e) refl
 
 module _ (size : ℕ → ℕ) (starts ends : List ℕ) (f : ℕ) where
   -- turns of the loop over rows

@@ -24,12 +24,6 @@ onNeed (Need x) go = go x
 onNeed (Undefined f j) go = Undefined f j
 onNeed (TooLarge f) go = TooLarge f
 
--- what a sum comes to, where it comes to one
-unfoldable pub summed : Advance → ℕ
-summed Adv.Over = 0
-summed (Adv.Missing j s) = 0
-summed (Adv.Sum x) = x
-
 -- with these sizes of tokens, and these columns of starts and ends
 module _ (size : ℕ → ℕ) (starts ends : List ℕ) where
   abbrev pub sumOfRow : ℕ → Advance

@@ -5,7 +5,7 @@ ghost use lib.ListN.{getD};
 ghost use Rattle.passes.specs.Sums.{sizeAt, advance};
 ghost use Rattle.workspace.specs.Map.{Room, startsOf, endsOf};
 ghost use Rattle.records.specs.Contents.{fieldsOf};
-ghost use Rattle.records.specs.Measuring.{summed, measureRows, measureEntry, measureIn};
+ghost use Rattle.records.specs.Measuring.{measureRows, measureEntry, measureIn};
 use passes::sums::Advance;
 use passes::sums::sum_on;
 use scan::column::cell;
@@ -15,27 +15,6 @@ pub enum Measured {
     Need(u64),
     Undefined(usize, usize),
     TooLarge(usize),
-}
-
-// The length of the value of the tokens from `from` up to `to`, where it has one.
-pub fn size_between(
-    ws: &[u32],
-    pool: &[u8],
-    n: usize,
-    count: usize,
-    v: usize,
-    from: usize,
-    to: usize,
-) -> usize
-    requires { ⌜ Room n count v (now ws) ⌝ }
-    ensures { λ r. ⌜ r ≡ summed (advance (sizeAt n count v (now (ws .entry)) (now (pool .entry))) from 0 (to - from)) ⌝ }
-{
-    let a = sum_on(ws, pool, n, count, v, from, to, 0);
-    match a {
-        Advance::Over => 0,
-        Advance::Missing(_, _) => 0,
-        Advance::Sum(x) => x,
-    }
 }
 
 // `need` bytes, and the records of the arguments of field f in the rows from `row` on.

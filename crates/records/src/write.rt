@@ -8,7 +8,6 @@ ghost use Rattle.writer.specs.Tables.{tablesIn, valueBetween};
 ghost use Rattle.writer.specs.Writing.{Remembered, Written};
 ghost use Rattle.records.specs.Contents.{fieldsOf, valuesFrom, presents, Valued, Listed, Fielded};
 ghost use Rattle.records.specs.Recording.{head, listBytes, entryBytes, Standing, Fieldable, Recorded};
-use crate::measure::size_between;
 use scan::column::cell;
 use scan::little::put_little;
 use writer::forget;
@@ -34,7 +33,7 @@ fn put_head(out: &mut [u8], at: usize, size: usize, kind: usize)
     put_little(out, at + 4, 2, kind as u64);
 }
 
-// The value of the tokens from `from` up to `to` as a record. Returns the place past it.
+// The value of the tokens from `from` up to `to` as a record: the value, and then its head, once its length is known. Returns the place past it.
 fn write_record(
     ws: &mut [u32],
     pool: &[u8],
@@ -51,9 +50,10 @@ fn write_record(
     ensures { λ r. ⌜ Written n v (tablesIn n count v (now (ws .entry)) (now (pool .entry))) (now (ws .entry)) (now (out .entry)) at
         (recordBytes kind (valueBetween (tablesIn n count v (now (ws .entry)) (now (pool .entry))) from to)) (now (ws .exit)) (now (out .exit)) r ⌝ }
 {
-    let size = size_between(ws, pool, n, count, v, from, to);
-    put_head(out, at, size, kind);
-    write_value(ws, pool, out, at + 6, from, to, n, count, v)
+    let start = at + 6;
+    let end = write_value(ws, pool, out, start, from, to, n, count, v);
+    put_head(out, at, end - start, kind);
+    end
 }
 
 // The records of the arguments in the rows from `row` on.

@@ -29,19 +29,19 @@ pub record Level (v : ℕ) (t : Tables) (num : ℕ → ℕ) (count depth : ℕ) 
   pub deep : 3 * rank + depth ≤ 3 * v
   pub in-table : e ≤ count
 
--- in the output as it will be, the owner's value ends at `end`
-pub record Mine (v : ℕ) (t : Tables) (F : List ℕ) (end owner : ℕ) : Type 0 where
+-- in the output as it will be, the owner's value ends at `end`, and begins at `low` or later
+pub record Mine (v : ℕ) (t : Tables) (F : List ℕ) (low end owner : ℕ) : Type 0 where
   pub is-name : owner < v
-  pub within : length (value t owner) ≤ end
+  pub within : low + length (value t owner) ≤ end
   pub stands : Stands F (end - length (value t owner)) (value t owner)
 
 -- the stack, the top first: what is left of the frame above it ends at `end`, and makes the value of `owner`
-unfoldable pub Chain : ℕ → Tables → List ℕ → (ℕ → ℕ) → ℕ → ℕ → ℕ → List ℕ → Type 0
-Chain v t F num count end owner [] = owner ≡ v
-Chain v t F num count end owner (a ∷ []) = ⊥
-Chain v t F num count end owner (a ∷ b ∷ []) = ⊥
-Chain v t F num count end owner (i ∷ e ∷ o ∷ rest) =
-    Mine v t F end owner × Level v t num count (length rest) (o ∷ owners rest) i e × Chain v t F num count (end + length (valueBetween t i e)) o rest
+unfoldable pub Chain : ℕ → Tables → List ℕ → ℕ → (ℕ → ℕ) → ℕ → ℕ → ℕ → List ℕ → Type 0
+Chain v t F low num count end owner [] = owner ≡ v
+Chain v t F low num count end owner (a ∷ []) = ⊥
+Chain v t F low num count end owner (a ∷ b ∷ []) = ⊥
+Chain v t F low num count end owner (i ∷ e ∷ o ∷ rest) =
+    Mine v t F low end owner × Level v t num count (length rest) (o ∷ owners rest) i e × Chain v t F low num count (end + length (valueBetween t i e)) o rest
 
 -- what the stack is still to give
 unfoldable pub pend : Tables → List ℕ → List ℕ
@@ -50,8 +50,8 @@ pend t (a ∷ []) = []
 pend t (a ∷ b ∷ []) = []
 pend t (i ∷ e ∷ o ∷ rest) = valueBetween t i e ++ pend t rest
 
--- F is the output as it will be, up to `stop`
-pub record Run (n count v : ℕ) (pool : List ℕ) (t : Tables) (ws₀ F : List ℕ) (stop : ℕ) (ws out : List ℕ) (top i e owner at : ℕ) : Type 0 where
+-- F is the output as it will be, written from `low` up to `stop`
+pub record Run (n count v : ℕ) (pool : List ℕ) (t : Tables) (ws₀ F : List ℕ) (low stop : ℕ) (ws out : List ℕ) (top i e owner at : ℕ) : Type 0 where
   pub sound : Sound count v t
   pub room : Room n count v ws
   pub apart : Apart n ws₀ ws
@@ -59,18 +59,20 @@ pub record Run (n count v : ℕ) (pool : List ℕ) (t : Tables) (ws₀ F : List 
   pub out-long : length out ≡ length F
   pub within : top ≤ 12 * n
   pub level : Level v t (sound .num) count (12 * n - top) (owner ∷ owners (stack n top ws)) i e
-  pub chain : Chain v t F (sound .num) count (at + length (valueBetween t i e)) owner (stack n top ws)
+  pub chain : Chain v t F low (sound .num) count (at + length (valueBetween t i e)) owner (stack n top ws)
   pub bytes : puts out at (valueBetween t i e ++ pend t (stack n top ws)) ≡ F
   pub ends : at + length (valueBetween t i e ++ pend t (stack n top ws)) ≡ stop
   pub fits : stop ≤ length F
   pub small : stop < 4611686018427387904
   pub remembered : Remembered n v t ws F at
+  pub begun : low ≤ at
+  pub recent : (j : ℕ) → j < v → placeIn n ws j ≤ low → placeIn n ws j ≡ placeIn n ws₀ j
 
-held-more : (n v : ℕ) (t : Tables) (ws F : List ℕ) (at at′ : ℕ) → at ≤ at′ → Remembered n v t ws F at → Remembered n v t ws F at′
+pub held-more : (n v : ℕ) (t : Tables) (ws F : List ℕ) (at at′ : ℕ) → at ≤ at′ → Remembered n v t ws F at → Remembered n v t ws F at′
 held-more n v t ws F at at′ h r j k p = let x = r j k p in record { inside = omega (arith, x .inside); stands = x .stands }
 
 pub begin : {n count v : ℕ} {pool ws out : List ℕ} {at from to : ℕ} → Sound count v (tablesIn n count v ws pool) → Writable n count v (tablesIn n count v ws pool) ws out at from to
-    → Run n count v pool (tablesIn n count v ws pool) ws (puts out at (valueBetween (tablesIn n count v ws pool) from to)) (at + length (valueBetween (tablesIn n count v ws pool) from to)) ws out (12 * n) from to v at
+    → Run n count v pool (tablesIn n count v ws pool) ws (puts out at (valueBetween (tablesIn n count v ws pool) from to)) at (at + length (valueBetween (tablesIn n count v ws pool) from to)) ws out (12 * n) from to v at
 unfolding Chain pend owners has
 begin {n} {count} {v} {pool} {ws} {out} {at} {from} {to} s w =
     let t : Tables = tablesIn n count v ws pool in
@@ -95,12 +97,14 @@ begin {n} {count} {v} {pool} {ws} {out} {at} {from} {to} s w =
       fits = rw (length-puts out at (valueBetween t from to)) (w .fits);
       small = w .small;
       remembered = λ j k p. (let x = w .remembered j k p in record { inside = x .inside; stands = column-before (length (value t j)) (placeIn n ws j - 1) out at (valueBetween t from to) (x .inside) ∙ x .stands });
+      begun = omega arith;
+      recent = λ j k h. refl;
     }
   where
     nothing : false ≡ true → ⊥
     nothing q = let z : _≡_ {A = ℕ} 0 1 = cc in omega arith
 
-module _ {n count v : ℕ} {pool : List ℕ} {t : Tables} {ws₀ F : List ℕ} {stop : ℕ} {ws out : List ℕ} {top i e owner at : ℕ} (R : Run n count v pool t ws₀ F stop ws out top i e owner at) where
+module _ {n count v : ℕ} {pool : List ℕ} {t : Tables} {ws₀ F : List ℕ} {low stop : ℕ} {ws out : List ℕ} {top i e owner at : ℕ} (R : Run n count v pool t ws₀ F low stop ws out top i e owner at) where
   stack-long : length (stack n top ws) ≡ 12 * n - top
   stack-long = length-drop top (take (12 * n) ws) ∙ ap (λ (m : ℕ). m - top) (omega (arith, length-take (12 * n) ws, R .room .room))
 
@@ -124,7 +128,7 @@ module _ {n count v : ℕ} {pool : List ℕ} {t : Tables} {ws₀ F : List ℕ} {
 
     -- the first token's bytes are written
     advance : (u : List ℕ) → valueBetween t i e ≡ u ++ valueBetween t (i + 1) e → Refs (R .sound .num) v (R .level .rank) (pieces t (i + 1) e)
-        → Run n count v pool t ws₀ F stop ws (puts out at u) top (i + 1) e owner (at + length u)
+        → Run n count v pool t ws₀ F low stop ws (puts out at u) top (i + 1) e owner (at + length u)
     advance u q known =
         let w : List ℕ = valueBetween t (i + 1) e in
         let p : List ℕ = pend t (stack n top ws) in
@@ -143,13 +147,15 @@ module _ {n count v : ℕ} {pool : List ℕ} {t : Tables} {ws₀ F : List ℕ} {
           fits = R .fits;
           small = R .small;
           remembered = held-more n v t ws F at (at + length u) (omega arith) (R .remembered);
+          begun = omega (arith, R .begun);
+          recent = R .recent;
         }
 
     whole-fits : at + length (valueBetween t i e) ≤ length out
     whole-fits = omega (arith, R .ends, R .fits, R .out-long, length-append (valueBetween t i e) (pend t (stack n top ws)))
 
     -- a token that was dropped
-    pub go-dropped : (k : ℕ) → k ≡ kindAt count ws i → k ≡ 0 → Run n count v pool t ws₀ F stop ws out top (i + 1) e owner at
+    pub go-dropped : (k : ℕ) → k ≡ kindAt count ws i → k ≡ 0 → Run n count v pool t ws₀ F low stop ws out top (i + 1) e owner at
     go-dropped k ke z =
         let f = front-dropped t i e h in-tokens (sym (is-kind k ke) ∙ z) in
         let a : at + 0 ≡ at = add-zero at in
@@ -171,7 +177,7 @@ module _ {n count v : ℕ} {pool : List ℕ} {t : Tables} {ws₀ F : List ℕ} {
       text-fits = omega (arith, whole-fits, length-append (tokenAt (decode count ws pool) i .text) (valueBetween t (i + 1) e), ap length whole-text)
 
       pub go-text : (out′ : List ℕ) (at′ : ℕ) → (at′ ≡ at + length (tokenAt (decode count ws pool) i .text)) × (out′ ≡ puts out at (tokenAt (decode count ws pool) i .text))
-          → Run n count v pool t ws₀ F stop ws out′ top (i + 1) e owner at′
+          → Run n count v pool t ws₀ F low stop ws out′ top (i + 1) e owner at′
       go-text out′ at′ q =
           rw (q .0, q .1) (advance (tokenAt (decode count ws pool) i .text) whole-text (refs-tail (R .sound .num) v (R .level .rank) (Piece.text (tokenAt (t .tokens) i .text)) (pieces t (i + 1) e) (rw is-text at (R .level .known))))
 
@@ -201,7 +207,7 @@ module _ {n count v : ℕ} {pool : List ℕ} {t : Tables} {ws₀ F : List ℕ} {
         value-fits = omega (arith, whole-fits, length-append (value t j) (valueBetween t (i + 1) e), ap length whole-ref)
 
         -- its value is empty
-        pub go-skip : size ≡ 1 → Run n count v pool t ws₀ F stop ws out top (i + 1) e owner at
+        pub go-skip : size ≡ 1 → Run n count v pool t ws₀ F low stop ws out top (i + 1) e owner at
         go-skip o =
             let z : value t j ≡ [] = empty (value t j) (omega (arith, size-is)) in
             let a : at + 0 ≡ at = add-zero at in
@@ -227,7 +233,7 @@ module _ {n count v : ℕ} {pool : List ℕ} {t : Tables} {ws₀ F : List ℕ} {
               sym (column-before (length (value t j)) (q - 1) out at (valueBetween t i e ++ pend t (stack n top ws)) (held .inside))
               ∙ ap (λ (l : List ℕ). take (length (value t j)) (drop (q - 1) l)) (R .bytes) ∙ held .stands
 
-          pub go-copy : (out′ : List ℕ) → out′ ≡ puts out at (take (size - 1) (drop (q - 1) out)) → Run n count v pool t ws₀ F stop ws out′ top (i + 1) e owner (at + (size - 1))
+          pub go-copy : (out′ : List ℕ) → out′ ≡ puts out at (take (size - 1) (drop (q - 1) out)) → Run n count v pool t ws₀ F low stop ws out′ top (i + 1) e owner (at + (size - 1))
           go-copy out′ oe =
               let m : size - 1 ≡ length (value t j) = omega (arith, size-is) in
               rw (oe, m, copied) (advance (value t j) whole-ref (ref-known .2))
@@ -268,7 +274,7 @@ module _ {n count v : ℕ} {pool : List ℕ} {t : Tables} {ws₀ F : List ℕ} {
           let d = due-begin n v t ws entered j (owner ∷ owners (stack n top ws)) (ref-known .0) place-kept z not-busy in
           rw pushed (omega arith)
 
-      go-enter : Run n count v pool t ws₀ F stop entered out (top - 3) (startOf t j) (endOf t j) j at
+      go-enter : Run n count v pool t ws₀ F low stop entered out (top - 3) (startOf t j) (endOf t j) j at
       unfolding Chain pend owners
       go-enter =
           let w : List ℕ = valueBetween t (i + 1) e in
@@ -295,7 +301,7 @@ module _ {n count v : ℕ} {pool : List ℕ} {t : Tables} {ws₀ F : List ℕ} {
             chain = rw (pushed, x) (
               record {
                 is-name = ref-known .0;
-                within = omega arith;
+                within = omega (arith, R .begun);
                 stands = (let z : at + length (value t j) - length (value t j) ≡ at = omega arith in rw (z, ← b) (stands-here out at (value t j) (w ++ p) (omega (arith, R .out-long, R .fits))));
               },
               record { rank = R .level .rank; free = R .level .free; known = ref-known .2; deep = rw stack-long (R .level .deep); in-table = R .level .in-table },
@@ -306,6 +312,8 @@ module _ {n count v : ℕ} {pool : List ℕ} {t : Tables} {ws₀ F : List ℕ} {
             fits = R .fits;
             small = R .small;
             remembered = λ x y z. rw (place-kept x y) (R .remembered x y (rw (place-kept x y) at z));
+            begun = R .begun;
+            recent = λ x y z. place-kept x y ∙ R .recent x y (rw (place-kept x y) at z);
           }
 
       -- and so the workspace and its reads after it
@@ -328,19 +336,19 @@ module _ {n count v : ℕ} {pool : List ℕ} {t : Tables} {ws₀ F : List ℕ} {
         unfolding entered
         less-entered q qe z = rw (we, start-is, end-is) (less-enter (sym qe ∙ z))
 
-        pub go-entered : Run n count v pool t ws₀ F stop ws′ out (top - 3) a b j at
+        pub go-entered : Run n count v pool t ws₀ F low stop ws′ out (top - 3) a b j at
         unfolding entered
         go-entered = rw (we, start-is, end-is) go-enter
 
-module _ (v : ℕ) (t : Tables) (F : List ℕ) (num : ℕ → ℕ) (count : ℕ) where
-  three : (end owner : ℕ) (l : List ℕ) → Chain v t F num count end owner l → 1 ≤ length l → 3 ≤ length l
+module _ (v : ℕ) (t : Tables) (F : List ℕ) (low : ℕ) (num : ℕ → ℕ) (count : ℕ) where
+  three : (end owner : ℕ) (l : List ℕ) → Chain v t F low num count end owner l → 1 ≤ length l → 3 ≤ length l
   unfolding Chain
   three end owner [] c h = absurd (omega arith)
   three end owner (a ∷ []) c h = absurd c
   three end owner (a ∷ b ∷ []) c h = absurd c
   three end owner (a ∷ b ∷ d ∷ l) c h = omega arith
 
-  owner-le : (end owner : ℕ) (l : List ℕ) → Chain v t F num count end owner l → owner ≤ v
+  owner-le : (end owner : ℕ) (l : List ℕ) → Chain v t F low num count end owner l → owner ≤ v
   unfolding Chain
   owner-le end owner [] c = omega (arith, c)
   owner-le end owner (a ∷ []) c = absurd c
@@ -348,10 +356,10 @@ module _ (v : ℕ) (t : Tables) (F : List ℕ) (num : ℕ → ℕ) (count : ℕ)
   owner-le end owner (a ∷ b ∷ d ∷ l) c = omega (arith, c .0 .is-name)
 
 -- what is pushed fits its entries
-pub frame-small : {n count v : ℕ} {pool : List ℕ} {t : Tables} {ws₀ F : List ℕ} {stop : ℕ} {ws out : List ℕ} {top i e owner at : ℕ} (R : Run n count v pool t ws₀ F stop ws out top i e owner at) → i < e
+pub frame-small : {n count v : ℕ} {pool : List ℕ} {t : Tables} {ws₀ F : List ℕ} {low stop : ℕ} {ws out : List ℕ} {top i e owner at : ℕ} (R : Run n count v pool t ws₀ F low stop ws out top i e owner at) → i < e
     → (i + 1 ≤ 65536) × (e ≤ 65536) × (owner ≤ 65536)
-frame-small {n} {count} {v} {t} {F} {ws} {top} {i} {e} {owner} {at} R h =
-    (omega (arith, R .level .in-table, R .room .tokens, R .room .small), omega (arith, R .level .in-table, R .room .tokens, R .room .small), omega (arith, owner-le v t F (R .sound .num) count (at + length (valueBetween t i e)) owner (stack n top ws) (R .chain), R .room .few, R .room .tokens, R .room .small))
+frame-small {n} {count} {v} {t} {F} {low} {ws} {top} {i} {e} {owner} {at} R h =
+    (omega (arith, R .level .in-table, R .room .tokens, R .room .small), omega (arith, R .level .in-table, R .room .tokens, R .room .small), omega (arith, owner-le v t F low (R .sound .num) count (at + length (valueBetween t i e)) owner (stack n top ws) (R .chain), R .room .few, R .room .tokens, R .room .small))
 
 three-front : (n : ℕ) (ws : List ℕ) (top : ℕ) → top + 3 ≤ 12 * n → 12 * n ≤ length ws
     → stack n top ws ≡ getD (take 3 (drop top ws)) 0 0 ∷ getD (take 3 (drop top ws)) 1 0 ∷ getD (take 3 (drop top ws)) 2 0 ∷ stack n (top + 3) ws
@@ -366,20 +374,20 @@ three-front n ws top h l =
     rw (rest-at (take (12 * n) ws) top (omega arith), rest-at (take (12 * n) ws) (top + 1) (omega arith), p, rest-at (take (12 * n) ws) (top + 2) (omega arith), q, a, b, c)
 
 -- a value is whole
-module _ {n count v : ℕ} {pool : List ℕ} {t : Tables} {ws₀ F : List ℕ} {stop : ℕ} {ws out : List ℕ} {top i e owner at : ℕ} (R : Run n count v pool t ws₀ F stop ws out top i e owner at) (h : e ≤ i) where
+module _ {n count v : ℕ} {pool : List ℕ} {t : Tables} {ws₀ F : List ℕ} {low stop : ℕ} {ws out : List ℕ} {top i e owner at : ℕ} (R : Run n count v pool t ws₀ F low stop ws out top i e owner at) (h : e ≤ i) where
   nothing-left : valueBetween t i e ≡ []
   unfolding joined
   nothing-left = ap (joined (value t)) (front-none t i e h)
 
-  chain-here : Chain v t F (R .sound .num) count at owner (stack n top ws)
+  chain-here : Chain v t F low (R .sound .num) count at owner (stack n top ws)
   chain-here = rw (nothing-left, add-zero at) at (R .chain)
 
   -- of a variable
   module _ (m : top ≡ 12 * n → ⊥) where
     pub frame-in : top + 3 ≤ 12 * n
-    frame-in = omega (arith, three v t F (R .sound .num) count at owner (stack n top ws) chain-here (omega (arith, stack-long R, R .within)), stack-long R)
+    frame-in = omega (arith, three v t F low (R .sound .num) count at owner (stack n top ws) chain-here (omega (arith, stack-long R, R .within)), stack-long R)
 
-    mine : Mine v t F at owner
+    mine : Mine v t F low at owner
     unfolding Chain
     mine = (rw (three-front n ws top frame-in (omega (arith, R .room .room))) at chain-here) .0
 
@@ -425,6 +433,15 @@ module _ {n count v : ℕ} {pool : List ℕ} {t : Tables} {ws₀ F : List ℕ} {
             there : (j ≡ owner → ⊥) → Held F at (value t j) (placeIn n ws′ j)
             there other = let z = unnoted j other in rw z (R .remembered j k (rw z at p))
 
+        noted-recent : (j : ℕ) → j < v → placeIn n ws′ j ≤ low → placeIn n ws′ j ≡ placeIn n ws₀ j
+        noted-recent j k p = elim (decLt j owner) [ yes l ↦ there (λ q. omega arith) | no l ↦ elim (decLt owner j) [ yes m ↦ there (λ q. omega arith) | no m ↦ absurd (here (omega arith)) ] ]
+          where
+            here : j ≡ owner → ⊥
+            here same = let z : placeIn n ws′ j ≡ at + 2 - size = ap (placeIn n ws′) same ∙ noted in omega (arith, owner-size, mine .within)
+
+            there : (j ≡ owner → ⊥) → placeIn n ws′ j ≡ placeIn n ws₀ j
+            there other = let z = unnoted j other in z ∙ R .recent j k (rw z at p)
+
         module _ (a b o : ℕ) (ae : a ≡ getD (take 3 (drop top ws′)) 0 0) (be : b ≡ getD (take 3 (drop top ws′)) 1 0) (oe : o ≡ getD (take 3 (drop top ws′)) 2 0) where
           popped : stack n top ws ≡ a ∷ b ∷ o ∷ stack n (top + 3) ws′
           popped = rw (ae, be, oe) front-same
@@ -435,10 +452,10 @@ module _ {n count v : ℕ} {pool : List ℕ} {t : Tables} {ws₀ F : List ℕ} {
               let d = due-end n v t ws ws′ owner (o ∷ owners (stack n (top + 3) ws′)) unnoted (omega (arith, noted, owner-size, mine .within)) in
               rw popped (omega arith)
 
-          pub go-pop : Run n count v pool t ws₀ F stop ws′ out (top + 3) a b o at
+          pub go-pop : Run n count v pool t ws₀ F low stop ws′ out (top + 3) a b o at
           unfolding Chain pend
           go-pop =
-              let c : Chain v t F (R .sound .num) count at owner (a ∷ b ∷ o ∷ stack n (top + 3) ws′) = rw popped at chain-here in
+              let c : Chain v t F low (R .sound .num) count at owner (a ∷ b ∷ o ∷ stack n (top + 3) ws′) = rw popped at chain-here in
               let d : length (stack n (top + 3) ws′) ≡ 12 * n - (top + 3)
               = length-drop (top + 3) (take (12 * n) ws′) ∙ ap (λ (m : ℕ). m - (top + 3)) (omega (arith, length-take (12 * n) ws′, noted-apart .long, R .room .room)) in
               record {
@@ -455,6 +472,8 @@ module _ {n count v : ℕ} {pool : List ℕ} {t : Tables} {ws₀ F : List ℕ} {
                 fits = R .fits;
                 small = R .small;
                 remembered = recalled;
+                begun = R .begun;
+                recent = noted-recent;
               }
 
   -- of the whole
@@ -476,5 +495,5 @@ module _ {n count v : ℕ} {pool : List ℕ} {t : Tables} {ws₀ F : List ℕ} {
     out-done = rw (stack-none n top ws (omega arith), nothing-left) at (R .bytes)
 
 pub done : {n count v : ℕ} {pool : List ℕ} {t : Tables} {ws₀ out₀ : List ℕ} {at₀ : ℕ} {bs ws out : List ℕ} {top i e owner at : ℕ}
-    → Run n count v pool t ws₀ (puts out₀ at₀ bs) (at₀ + length bs) ws out top i e owner at → e ≤ i → top ≡ 12 * n → Written n v t ws₀ out₀ at₀ bs ws out at
-done R h m = record { moved = at-stop R h m; bytes = out-done R h m; apart = R .apart; remembered = rw (out-done R h m) (R .remembered) }
+    → Run n count v pool t ws₀ (puts out₀ at₀ bs) at₀ (at₀ + length bs) ws out top i e owner at → e ≤ i → top ≡ 12 * n → Written n v t ws₀ out₀ at₀ bs ws out at
+done R h m = record { moved = at-stop R h m; bytes = out-done R h m; apart = R .apart; remembered = rw (out-done R h m) (R .remembered); recent = R .recent }

@@ -67,6 +67,6 @@ module _ {count v : ℕ} {t : Tables} (r : Ready count v t) where
       }
 
 pub start : {n count v : ℕ} {pool ws out : List ℕ} {at from to : ℕ} → Writable n count v (tablesIn n count v ws pool) ws out at from to
-    → Run n count v pool (tablesIn n count v ws pool) ws (puts out at (valueBetween (tablesIn n count v ws pool) from to)) (at + length (valueBetween (tablesIn n count v ws pool) from to)) ws out (12 * n) from to v at
+    → Run n count v pool (tablesIn n count v ws pool) ws (puts out at (valueBetween (tablesIn n count v ws pool) from to)) at (at + length (valueBetween (tablesIn n count v ws pool) from to)) ws out (12 * n) from to v at
 start {n} {count} {v} {pool} {ws} w =
     begin (sound (w .ready) (length-decode count ws pool) (omega (arith, length-take v (drop (4 * n) ws), length-drop (4 * n) ws, w .room .room, w .room .few, w .room .tokens))) w

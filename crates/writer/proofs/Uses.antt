@@ -8,18 +8,18 @@ use native.Mathlib.Nat.{add-zero}
 use native.Mathlib.Decide.{decLt}
 use native.Mathlib.Omega.{arith}
 use lib.Dec.{ltb}
-use lib.ListN.{length, getD, replicate, length-append, length-map, length-replicate, List·getD-eq-default}
+use lib.ListN.{length, getD, take, drop, replicate, length-append, length-map, length-replicate, List·getD-eq-default}
 use Rattle.rules.specs.Numbers.{ok}
 use Rattle.rules.specs.Lines.{Assignment}
 use Rattle.rules.specs.Variables.{Piece, rulesOf, Found, Resolved, tooLarge, lacks, resolveVariables, foundAt, resolved, resolve, limit, Expansion, large, missing, bounded, expand}
 use Rattle.rules.proofs.Lengths.{entries}
 use Rattle.rules.proofs.TableLaws.{ok-one, refused-ok}
 use Rattle.scan.specs.Stores.{puts}
-use Rattle.scan.proofs.Stores.{puts-puts, column-before}
+use Rattle.scan.proofs.Stores.{puts-puts, puts-comm, column-before, column-after}
 use Rattle.workspace.specs.Map.{Room, keysOf, endsOf, lengthsOf, variablesIn, rulesIn, Looked}
 use Rattle.workspace.proofs.Links.{rules-looked}
 use Rattle.writer.specs.Tables.{Tables, tablesIn, valuesOf, orEmpty, value, joined}
-use Rattle.writer.specs.Writing.{placeIn, Remembered, Known, Ready, Apart, Written}
+use Rattle.writer.specs.Writing.{placeIn, Held, Remembered, Known, Ready, Apart, Written}
 use Rattle.writer.proofs.Places.{forgotten, scratch-fits, apart-none, apart-more, apart-puts}
 use Rattle.writer.proofs.Sounds.{has-all}
 
@@ -65,10 +65,11 @@ module _ {n v : ℕ} {t : Tables} {ws out : List ℕ} {at : ℕ} where
         bytes = refl;
         apart = apart-none n ws;
         remembered = λ j k p. (let x = r j k p in record { inside = omega (arith, x .inside); stands = column-before (length (value t j)) (placeIn n ws j - 1) out at bs (x .inside) ∙ x .stands });
+        recent = λ j k p. refl;
       }
 
   pub none-written : Remembered n v t ws out at → Written n v t ws out at [] ws out at
-  none-written r = record { moved = sym (add-zero at); bytes = refl; apart = apart-none n ws; remembered = r }
+  none-written r = record { moved = sym (add-zero at); bytes = refl; apart = apart-none n ws; remembered = r; recent = λ j k p. refl }
 
   -- one thing after another
   pub and-then : {bs cs ws₁ out₁ ws₂ out₂ : List ℕ} {at₁ at₂ : ℕ} → Written n v t ws out at bs ws₁ out₁ at₁ → Written n v t ws₁ out₁ at₁ cs ws₂ out₂ at₂
@@ -79,7 +80,34 @@ module _ {n v : ℕ} {t : Tables} {ws out : List ℕ} {at : ℕ} where
         bytes = b .bytes ∙ rw (a .bytes, a .moved) (puts-puts out at bs cs);
         apart = apart-more (a .apart) (b .apart);
         remembered = b .remembered;
+        recent = λ j k p. (let e = b .recent j k (omega (arith, a .moved)) in e ∙ a .recent j k (omega arith));
       }
+
+  -- bytes from elsewhere before what was written, as a record's head
+  pub before-written : (hs : List ℕ) → Remembered n v t ws out at → {bs ws₁ out₁ : List ℕ} {at₁ : ℕ} → Written n v t ws out (at + length hs) bs ws₁ out₁ at₁
+      → Written n v t ws out at (hs ++ bs) ws₁ (puts out₁ at hs) at₁
+  before-written hs r {bs} {ws₁} {out₁} {at₁} w =
+      record {
+        moved = omega (arith, w .moved, length-append hs bs);
+        bytes = ap (λ (l : List ℕ). puts l at hs) (w .bytes) ∙ sym (puts-comm out at (at + length hs) hs bs (omega arith)) ∙ puts-puts out at hs bs;
+        apart = w .apart;
+        remembered = λ j k p. held j k p (decLt (at + length hs) (placeIn n ws₁ j));
+        recent = λ j k p. w .recent j k (omega arith);
+      }
+    where
+      held : (j : ℕ) → j < v → 1 ≤ placeIn n ws₁ j → Dec (at + length hs < placeIn n ws₁ j) → Held (puts out₁ at hs) at₁ (value t j) (placeIn n ws₁ j)
+      held j k p (yes l) =
+          let x = w .remembered j k p in
+          record { inside = x .inside; stands = column-after (length (value t j)) (placeIn n ws₁ j - 1) out₁ at hs (omega arith) ∙ x .stands }
+      held j k p (no l) =
+          let e = w .recent j k (omega arith) in
+          let x = r j k (rw e at p) in
+          rw e (record {
+            inside = omega (arith, x .inside, w .moved);
+            stands = column-before (length (value t j)) (placeIn n ws j - 1) out₁ at hs (x .inside)
+                ∙ ap (λ (l : List ℕ). take (length (value t j)) (drop (placeIn n ws j - 1) l)) (w .bytes)
+                ∙ column-before (length (value t j)) (placeIn n ws j - 1) out (at + length hs) bs (omega (arith, x .inside)) ∙ x .stands;
+          })
 
 -- a value that `expand` gives is the pieces joined, and every reference is to an assigned name
 unbounded : (v : List ℕ) (e : Expansion) (w : List ℕ) → bounded v e ≡ Expansion.value w → e ≡ Expansion.value w

@@ -54,9 +54,10 @@ pub record Apart (n : ℕ) (ws ws′ : List ℕ) : Type 0 where
   pub before : take (9 * n) ws′ ≡ take (9 * n) ws
   pub past : drop (12 * n) ws′ ≡ drop (12 * n) ws
 
--- the bytes bs are written at place `at`; what is remembered is right again
+-- the bytes bs are written at place `at`; what is remembered is right again, and what is new of it stands there or later
 pub record Written (n v : ℕ) (t : Tables) (ws out : List ℕ) (at : ℕ) (bs ws′ out′ : List ℕ) (at′ : ℕ) : Type 0 where
   pub moved : at′ ≡ at + length bs
   pub bytes : out′ ≡ puts out at bs
   pub apart : Apart n ws ws′
   pub remembered : Remembered n v t ws′ out′ at′
+  pub recent : (j : ℕ) → j < v → placeIn n ws′ j ≤ at → placeIn n ws′ j ≡ placeIn n ws j

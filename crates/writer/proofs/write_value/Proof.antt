@@ -13,7 +13,7 @@ use Rattle.writer.proofs.write_value.Tie as tie
 
 abbrev Inv-loop : tie.InvT-loop
 Inv-loop ws₀ pool out₀ at from to n count v bottom top₀ next₀ end₀ owner₀ p₀ ws out top next end owner p =
-    Run n count v pool (tablesIn n count v ws₀ pool) ws₀ (puts out₀ at (valueBetween (tablesIn n count v ws₀ pool) from to)) (at + length (valueBetween (tablesIn n count v ws₀ pool) from to)) ws out top next end owner p
+    Run n count v pool (tablesIn n count v ws₀ pool) ws₀ (puts out₀ at (valueBetween (tablesIn n count v ws₀ pool) from to)) at (at + length (valueBetween (tablesIn n count v ws₀ pool) from to)) ws out top next end owner p
 
 abbrev μ-loop : tie.MeasureT-loop
 μ-loop ws₀ pool out₀ at from to n count v bottom top₀ next₀ end₀ owner₀ p₀ ws out top next end owner p =
