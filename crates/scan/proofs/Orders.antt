@@ -1,15 +1,18 @@
 -- The order of two names says which stands before the other and whether they are the same. Assumes nothing.
-use Prim.Native.Nat.{ℕ, _<_, _≤_}
+use Prim.Native.Nat.{ℕ, _+_, _<_, _≤_}
 use mathlib.Core.Path.{_≡_, refl, sym, _∙_, ap}
 use mathlib.Core.Bool.{Bool, true, false}
 use mathlib.Core.List.{List, [], _∷_}
 use native.Mathlib.Omega.{arith}
+use lib.ListN.{length, drop, getD, drop-of-length-le}
+use native.Mathlib.Decide.{decLt}
 use lib.Dec.{ltb, eqb}
 use borrow.Author.Tests.{ltb-true, ltb-false, lt-ltb, le-ltb, eq-eqb, ne-eqb}
 use Rattle.rules.specs.Bytes.{pick, before, same}
 use Rattle.scan.specs.declared.order.Order.{Order}
 use Rattle.scan.specs.declared.order.Order.the-variants.{Less, Equal, Greater}
 use Rattle.scan.specs.Orders.{orderOf}
+use Rattle.scan.proofs.Lists.{rest-at}
 
 unfoldable pub isLess : Order → Bool
 isLess Less = true
@@ -88,3 +91,53 @@ module _ (a b : List ℕ) (o k : Order) (e : o ≡ orderOf a b) (m : o ≡ k) wh
 
   pub told-same : isEqual k ≡ same a b
   told-same = ap isEqual (sym m ∙ e) ∙ equal-same a b
+
+-- a comparison at place i: the rests compare as the whole, and `end` is the shorter one's length
+pub record Comparing (a b : List ℕ) (end i : ℕ) : Type 0 where
+  pub shorter : end ≡ pick (ltb (length a) (length b)) (length a) (length b)
+  pub within : i ≤ end
+  pub same : orderOf (drop i a) (drop i b) ≡ orderOf a b
+
+module _ {a b : List ℕ} {end i : ℕ} (C : Comparing a b end i) where
+  end-below : length a < length b → end ≡ length a
+  unfolding pick
+  end-below h = rw (lt-ltb (length a) (length b) h) at (C .shorter)
+
+  end-above : length b ≤ length a → end ≡ length b
+  unfolding pick
+  end-above h = rw (le-ltb (length a) (length b) h) at (C .shorter)
+
+  pub end-fits : (end ≤ length a) × (end ≤ length b)
+  end-fits = elim (decLt (length a) (length b)) [
+    | yes h ↦ (omega (arith, end-below h), omega (arith, end-below h))
+    | no h ↦ (omega (arith, end-above (omega arith)), omega (arith, end-above (omega arith)))
+  ]
+
+  -- two bytes
+  module _ (h : i < end) where
+    both : orderOf (getD a i 0 ∷ drop (i + 1) a) (getD b i 0 ∷ drop (i + 1) b) ≡ orderOf a b
+    both = rw (rest-at a i (omega (arith, end-fits)), rest-at b i (omega (arith, end-fits))) at (C .same)
+
+    pub same-bytes-here : getD a i 0 ≡ getD b i 0 → Comparing a b end (i + 1)
+    same-bytes-here e =
+        record { shorter = C .shorter; within = omega arith; same = sym (order-same (getD a i 0) (getD b i 0) (drop (i + 1) a) (drop (i + 1) b) (omega arith) (omega arith)) ∙ both }
+
+    pub less-here : getD a i 0 < getD b i 0 → Less ≡ orderOf a b
+    less-here l = sym (order-less (getD a i 0) (getD b i 0) (drop (i + 1) a) (drop (i + 1) b) l) ∙ both
+
+    pub greater-here : getD b i 0 < getD a i 0 → Greater ≡ orderOf a b
+    greater-here l = sym (order-greater (getD a i 0) (getD b i 0) (drop (i + 1) a) (drop (i + 1) b) l) ∙ both
+
+  -- the shorter one's end
+  module _ (h : end ≤ i) where
+    pub less-at-end : length a < length b → Less ≡ orderOf a b
+    unfolding orderOf
+    less-at-end l = rw (drop-of-length-le a {i = i} (omega (arith, end-below l)), rest-at b i (omega (arith, C .within, end-below l))) at (C .same)
+
+    pub greater-at-end : length b < length a → Greater ≡ orderOf a b
+    unfolding orderOf
+    greater-at-end l = rw (rest-at a i (omega (arith, C .within, end-above (omega arith))), drop-of-length-le b {i = i} (omega (arith, end-above (omega arith)))) at (C .same)
+
+    pub equal-at-end : length b ≤ length a → length a ≤ length b → Equal ≡ orderOf a b
+    unfolding orderOf
+    equal-at-end l m = rw (drop-of-length-le a {i = i} (omega (arith, end-above l)), drop-of-length-le b {i = i} (omega (arith, end-above l))) at (C .same)

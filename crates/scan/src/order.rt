@@ -1,6 +1,8 @@
 // Byte order of names, three ways, and whether they are the same.
 ghost use mathlib.Core.Path.{_≡_};
-ghost use Rattle.rules.specs.Bytes.{same};
+ghost use lib.Dec.{ltb};
+ghost use lib.ListN.{length};
+ghost use Rattle.rules.specs.Bytes.{pick, same};
 ghost use Rattle.scan.specs.Orders.{orderOf};
 
 pub enum Order {
@@ -9,26 +11,33 @@ pub enum Order {
     Greater,
 }
 
+// The shorter one's length.
+fn common_end(a: &[u8], b: &[u8]) -> usize
+    ensures { λ r. ⌜ r ≡ pick (ltb (length (now (a .entry))) (length (now (b .entry)))) (length (now (a .entry))) (length (now (b .entry))) ⌝ }
+{
+    if a.len() < b.len() { a.len() } else { b.len() }
+}
+
 pub fn compare(a: &[u8], b: &[u8]) -> Order
     ensures { λ r. ⌜ r ≡ orderOf (now (a .entry)) (now (b .entry)) ⌝ }
 {
+    let end = common_end(a, b);
     let mut i = 0;
-    while i < a.len() {
-        if b.len() <= i {
-            return Order::Greater;
-        }
+    while i < end {
         let x = a[i];
         let y = b[i];
-        if x < y {
+        if x == y {
+            i += 1;
+        } else if x < y {
             return Order::Less;
-        }
-        if y < x {
+        } else {
             return Order::Greater;
         }
-        i += 1;
     }
-    if i < b.len() {
+    if a.len() < b.len() {
         Order::Less
+    } else if b.len() < a.len() {
+        Order::Greater
     } else {
         Order::Equal
     }

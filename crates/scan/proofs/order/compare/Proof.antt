@@ -1,42 +1,29 @@
 -- `scan::order::compare` meets its contract: what is left compares as the whole. Assumes nothing.
-use Rattle.rules.specs.Bytes.{pick}
-use Rattle.scan.proofs.Lists.{rest-at}
-use Rattle.scan.specs.Orders.{orderOf}
-use borrow.Author.Needs.{needs}
-use borrow.Author.Tests.{lt-ltb, le-ltb}
-use lib.ListN.{length, drop, drop-of-length-le}
+use mathlib.Core.Path.{refl}
 use native.Mathlib.Omega.{arith}
-use mathlib.Core.Path.{_≡_}
-use Prim.Native.Nat.{_≤_, _-_}
+use Prim.Native.Nat.{_-_}
+use borrow.Author.Needs.{needs}
+use Rattle.scan.proofs.Orders.{Comparing, end-fits, same-bytes-here, less-here, greater-here, less-at-end, greater-at-end, equal-at-end}
 use Rattle.scan.proofs.order.compare.Statement.{statement}
 use Rattle.scan.proofs.order.compare.Tie as tie
 
 abbrev Inv-loop : tie.InvT-loop
-Inv-loop a b i₀ i = (i ≤ length a) × ((i ≤ length b) × (orderOf (drop i a) (drop i b) ≡ orderOf a b))
+Inv-loop a b end i₀ i = Comparing a b end i
 
 abbrev μ-loop : tie.MeasureT-loop
-μ-loop a b i₀ i = length a - i
+μ-loop a b end i₀ i = end - i
+
+common-end-requires : tie.Need-common-end-requires Inv-loop μ-loop
+common-end-requires c κs = search needs
 
 loop-holds : tie.Need-loop-holds Inv-loop μ-loop
-loop-holds c = search needs
-
-returns : tie.Need-returns Inv-loop μ-loop
-unfolding orderOf pick
-returns c = rw (rest-at _ _ (c .before .loop-test .taken), drop-of-length-le _ (c .if1 .taken)) at (c .before .before .loop .inv .1 .1)
+loop-holds c = record { shorter = c .common-end .ensures; within = omega arith; same = refl }
 
 shared-slice-read-x : tie.Need-shared-slice-read-x Inv-loop μ-loop
-shared-slice-read-x c = search needs
+shared-slice-read-x c = omega (arith, end-fits (c .before .before .loop .inv) .0, c .before .loop-test .taken)
 
 shared-slice-read-y : tie.Need-shared-slice-read-y Inv-loop μ-loop
-shared-slice-read-y c = search needs
-
-returns-2 : tie.Need-returns-2 Inv-loop μ-loop
-unfolding orderOf pick
-returns-2 c = rw (rest-at _ _ (c .before .before .before .before .loop-test .taken), rest-at _ _ (c .before .before .before .if1 .left), lt-ltb _ _ (c .if2 .taken)) at (c .before .before .before .before .before .loop .inv .1 .1)
-
-returns-3 : tie.Need-returns-3 Inv-loop μ-loop
-unfolding orderOf pick
-returns-3 c = rw (rest-at _ _ (c .before .before .before .before .before .loop-test .taken), rest-at _ _ (c .before .before .before .before .if1 .left), le-ltb _ _ (c .before .if2 .left), lt-ltb _ _ (c .if3 .taken)) at (c .before .before .before .before .before .before .loop .inv .1 .1)
+shared-slice-read-y c = omega (arith, end-fits (c .before .before .before .loop .inv) .1, c .before .before .loop-test .taken)
 
 add-i : tie.Need-add-i Inv-loop μ-loop
 add-i c = search needs
@@ -45,16 +32,22 @@ loop-less : tie.Need-loop-less Inv-loop μ-loop
 loop-less c = search needs
 
 loop-again : tie.Need-loop-again Inv-loop μ-loop
-unfolding orderOf pick
-loop-again c = (omega arith, (omega arith, rw (rest-at _ _ (c .before .before .before .before .before .loop-test .taken), rest-at _ _ (c .before .before .before .before .if1 .left), le-ltb _ _ (c .before .if2 .left), le-ltb _ _ (c .if3 .left)) at (c .before .before .before .before .before .before .loop .inv .1 .1)))
+loop-again c = same-bytes-here (c .before .before .before .before .loop .inv) (c .before .before .before .loop-test .taken) (c .if1 .taken)
+
+returns : tie.Need-returns Inv-loop μ-loop
+returns c = less-here (c .before .before .before .before .before .loop .inv) (c .before .before .before .before .loop-test .taken) (c .if2 .taken)
+
+returns-2 : tie.Need-returns-2 Inv-loop μ-loop
+returns-2 c = greater-here (c .before .before .before .before .before .loop .inv) (c .before .before .before .before .loop-test .taken) (omega (arith, c .if2 .left, c .before .if1 .left))
+
+returns-3 : tie.Need-returns-3 Inv-loop μ-loop
+returns-3 c = less-at-end (c .before .before .loop .inv) (c .before .loop-test .left) (c .if3 .taken)
 
 returns-4 : tie.Need-returns-4 Inv-loop μ-loop
-unfolding orderOf pick
-returns-4 c = let i = c .before .before in rw (drop-of-length-le _ (c .before .loop-test .left), rest-at (i .before .args .b .now) (i .loop .i) (c .if4 .taken)) at (i .loop .inv .1 .1)
+returns-4 c = greater-at-end (c .before .before .before .loop .inv) (c .before .before .loop-test .left) (c .if4 .taken)
 
 returns-5 : tie.Need-returns-5 Inv-loop μ-loop
-unfolding orderOf pick
-returns-5 c = let i = c .before .before in rw (drop-of-length-le _ (c .before .loop-test .left), drop-of-length-le (i .before .args .b .now) (c .if4 .left)) at (i .loop .inv .1 .1)
+returns-5 c = equal-at-end (c .before .before .before .loop .inv) (c .before .before .loop-test .left) (c .before .if3 .left) (c .if4 .left)
 
 pub compare-spec : {M : Type 1} → statement M
 compare-spec =
@@ -62,14 +55,15 @@ compare-spec =
     (tie.spec
     Inv-loop
     μ-loop
+    common-end-requires
     loop-holds
-    returns
     shared-slice-read-x
     shared-slice-read-y
-    returns-2
-    returns-3
     add-i
     loop-less
     loop-again
+    returns
+    returns-2
+    returns-3
     returns-4
     returns-5)
