@@ -325,15 +325,10 @@ fn reason(row: &Row) -> String {
         });
     }
     if row.verdict.contains("growth") {
-        words.push(match row.family {
-            "descending" => "each name goes before all others, and the column of names in byte order moves one entry up for it: \
-                             V\u{b2} / 2 entries in all"
-                .to_owned(),
-            _ => format!(
-                "zeroing alone grows {:.2} times, where the workspace outgrows a cache",
-                row.zeroing_growth.unwrap_or(1.0)
-            ),
-        });
+        words.push(format!(
+            "zeroing alone grows {:.2} times, where the workspace outgrows a cache",
+            row.zeroing_growth.unwrap_or(1.0)
+        ));
     }
     words.join("; ") + "."
 }
