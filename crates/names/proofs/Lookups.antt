@@ -17,7 +17,7 @@ use Rattle.scan.proofs.Lists.{cell-in}
 use Rattle.scan.proofs.Stores.{length-puts, puts-puts, column-before, getD-stored, getD-puts-below}
 use Rattle.tokens.specs.Entries.{decode, tokenAt, poolText, kindAt}
 use Rattle.tokens.proofs.TokenLaws.{length-decode, kind-at, decode-same}
-use Rattle.workspace.specs.Map.{keysOf, startsOf, endsOf, variablesIn, Looked}
+use Rattle.workspace.specs.Map.{keysOf, startsOf, endsOf, variablesFrom, variablesIn, Looked}
 use Rattle.names.specs.Store.{Searchable, rankFor, ranks, Lookable}
 use Rattle.names.proofs.Places.{table-length}
 
@@ -72,7 +72,7 @@ module _ (n count v : ℕ) (ws pool xs : List ℕ) (t : count ≤ n) (f : v ≤ 
 
   -- the variables and the fields are as before
   pub looked-variables : variablesIn n count v (puts ws (7 * n) xs) pool ≡ variablesIn n count v ws pool
-  unfolding variablesIn
+  unfolding variablesFrom
   looked-variables = rw (looked-tokens, looked-starts, looked-ends, looked-keys)
 
 pub length-ranks : (vs : List Assignment) (ts : List Token) → length (ranks vs ts) ≡ length ts
@@ -100,7 +100,7 @@ module _ (n count v : ℕ) (ws pool : List ℕ) (L : Lookable n count v ws pool)
   looked-up j h e =
       let l = length-looked in
       let m : length looked ≤ n = omega (arith, L .search .tokens) in
-      let T = looked-tokens n count v ws pool looked (L .search .tokens) (L .search .few) m in
+      let T = looked-tokens n count v ws pool looked (L .search .tokens) (omega (arith, L .search .few)) m in
       let x : isA Variable (tokenAt (decode count ws pool) j) ≡ true = rw T at e in
       sym (cell-in (puts ws (7 * n) looked) (7 * n) n j (omega (arith, L .search .tokens)))
       ∙ getD-stored ws (7 * n) looked (omega (arith, L .room)) j 0 (omega arith)
@@ -135,17 +135,17 @@ module _ (n count v : ℕ) (ws₀ pool ws : List ℕ) (j : ℕ) (L : Looking n c
 
   tokens-same : decode count ws pool ≡ decode count ws₀ pool
   unfolding all
-  tokens-same = ap (λ (l : List ℕ). decode count l pool) (L .done) ∙ looked-tokens n count v ws₀ pool (take j all) (L .asked .search .tokens) (L .asked .search .few) short
+  tokens-same = ap (λ (l : List ℕ). decode count l pool) (L .done) ∙ looked-tokens n count v ws₀ pool (take j all) (L .asked .search .tokens) (omega (arith, L .asked .search .few)) short
 
   variables-same : variablesIn n count v ws pool ≡ variablesIn n count v ws₀ pool
   unfolding all
-  variables-same = ap (λ (l : List ℕ). variablesIn n count v l pool) (L .done) ∙ looked-variables n count v ws₀ pool (take j all) (L .asked .search .tokens) (L .asked .search .few) short
+  variables-same = ap (λ (l : List ℕ). variablesIn n count v l pool) (L .done) ∙ looked-variables n count v ws₀ pool (take j all) (L .asked .search .tokens) (omega (arith, L .asked .search .few)) short
 
   keys-same : keysOf n v ws ≡ keysOf n v ws₀
   unfolding all
-  keys-same = ap (λ (l : List ℕ). keysOf n v l) (L .done) ∙ looked-keys n count v ws₀ pool (take j all) (L .asked .search .tokens) (L .asked .search .few) short
+  keys-same = ap (λ (l : List ℕ). keysOf n v l) (L .done) ∙ looked-keys n count v ws₀ pool (take j all) (L .asked .search .tokens) (omega (arith, L .asked .search .few)) short
 
-  pub look-asks : Searchable n count v ws pool
+  pub look-asks : Searchable (4 * n) n count v ws pool
   look-asks =
       record {
         room = omega (arith, look-long, L .asked .search .room);
@@ -163,7 +163,7 @@ module _ (n count v : ℕ) (ws₀ pool ws : List ℕ) (j : ℕ) (L : Looking n c
         ∙ sym (ranks-at (variablesIn n count v ws₀ pool) (decode count ws₀ pool) j (omega (arith, length-decode count ws₀ pool)))
 
     pub look-fits : r ≤ 65535
-    look-fits = omega (arith, e, rank-for-le (variablesIn n count v ws pool) (tokenAt (decode count ws pool) j), table-length n count v ws pool look-asks, L .asked .search .few, L .asked .small)
+    look-fits = omega (arith, e, rank-for-le (variablesIn n count v ws pool) (tokenAt (decode count ws pool) j), table-length (4 * n) n count v ws pool look-asks, L .asked .search .few, L .asked .small)
 
     pub look-more : Looking n count v ws₀ pool (set ws (7 * n + j) r) (j + 1)
     unfolding all

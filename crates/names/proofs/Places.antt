@@ -1,12 +1,12 @@
 -- The search for the place of a name among those in byte order, and what the place says. Assumes nothing.
-use Prim.Native.Nat.{ℕ, zero, suc, _+_, _*_, _-_, _/_, _≤_, _<_}
+use Prim.Native.Nat.{ℕ, zero, suc, _+_, _-_, _/_, _≤_, _<_}
 use mathlib.Core.Path.{_≡_, refl, sym, _∙_, ap}
 use mathlib.Core.Bool.{Bool, true, false}
 use mathlib.Core.List.{List, [], _∷_, _++_, map}
 use native.Mathlib.Omega.{arith}
 use lib.Dec.{leb}
 use lib.ListN.{length, getD, take, drop, length-map, length-drop}
-use lib.Seq.{getD-take, length-take-le}
+use lib.Seq.{length-take-le}
 use borrow.Author.Tests.{eqb-true}
 use Rattle.rules.specs.Bytes.{pick, same, before}
 use Rattle.rules.proofs.BytesLaws.{same-eq, same-refl, false-true, Before, before-is, is-before, before-irrefl, before-trans, before-total}
@@ -19,7 +19,7 @@ use Rattle.scan.specs.declared.order.Order.the-variants.{Less, Equal, Greater}
 use Rattle.scan.specs.Orders.{orderOf}
 use Rattle.scan.proofs.Orders.{isLess, isEqual, told-before, told-same}
 use Rattle.tokens.specs.Entries.{decode, tokenAt, poolText}
-use Rattle.workspace.specs.Map.{keysOf, startsOf, endsOf, variableAt, variablesIn}
+use Rattle.workspace.specs.Map.{keysFrom, startsOf, endsOf, variableAt, variablesFrom}
 use Rattle.names.specs.Store.{placeFor, isBefore, isSame, All, Texts, Searchable, isAssigned}
 
 by-not-true : (b : Bool) → (b ≡ true → ⊥) → b ≡ false
@@ -186,66 +186,65 @@ pub text-pooled : (t : Token) → isA Text t ≡ true → poolText t ≡ t .text
 unfolding isA pooled pick
 text-pooled t e = let k = eqb-true (t .kind) 1 e in rw k
 
-module _ (n count v : ℕ) (ws pool : List ℕ) (S : Searchable n count v ws pool) where
-  pub keys-length : length (keysOf n v ws) ≡ v
-  keys-length = length-take-le v (drop (4 * n) ws) (omega (arith, length-drop (4 * n) ws, S .room, S .few))
+module _ (first n count v : ℕ) (ws pool : List ℕ) (S : Searchable first n count v ws pool) where
+  pub keys-length : length (keysFrom first v ws) ≡ v
+  keys-length = length-take-le v (drop first ws) (omega (arith, length-drop first ws, S .room, S .few))
 
-  pub table-length : length (variablesIn n count v ws pool) ≡ v
-  unfolding variablesIn
-  table-length = length-map (keysOf n v ws) _ ∙ keys-length
+  pub table-length : length (variablesFrom first n count v ws pool) ≡ v
+  unfolding variablesFrom
+  table-length = length-map (keysFrom first v ws) _ ∙ keys-length
 
   -- the i-th name as it is read
-  name-read : (i : ℕ) → i < v → poolText (tokenAt (decode count ws pool) (getD (keysOf n n ws) i 0)) ≡ keyAt (variablesIn n count v ws pool) i .text
-  unfolding variablesIn
+  name-read : (i : ℕ) → i < v → poolText (tokenAt (decode count ws pool) (getD (keysFrom first v ws) i 0)) ≡ keyAt (variablesFrom first n count v ws pool) i .text
+  unfolding variablesFrom
   name-read i q =
       let l = keys-length in
-      let e : getD (keysOf n n ws) i 0 ≡ getD (keysOf n v ws) i 0 = getD-take n (drop (4 * n) ws) i 0 (omega (arith, S .few)) ∙ sym (getD-take v (drop (4 * n) ws) i 0 q) in
-      let x = all-at (λ (k : ℕ). isA Text (tokenAt (decode count ws pool) k) ≡ true) (keysOf n v ws) i (omega arith) (S .texts) in
-      ap (λ (k : ℕ). poolText (tokenAt (decode count ws pool) k)) e ∙ text-pooled (tokenAt (decode count ws pool) (getD (keysOf n v ws) i 0)) x
-      ∙ sym (ap (λ (t : Token). t .text) (key-map (decode count ws pool) (startsOf n ws) (endsOf n ws) (keysOf n v ws) i (omega arith)))
+      let x = all-at (λ (k : ℕ). isA Text (tokenAt (decode count ws pool) k) ≡ true) (keysFrom first v ws) i (omega arith) (S .texts) in
+      text-pooled (tokenAt (decode count ws pool) (getD (keysFrom first v ws) i 0)) x
+      ∙ sym (ap (λ (t : Token). t .text) (key-map (decode count ws pool) (startsOf n ws) (endsOf n ws) (keysFrom first v ws) i (omega arith)))
 
-  module _ (i : ℕ) (key : List ℕ) (q : i < v) (o k : Order) (e : o ≡ orderOf (poolText (tokenAt (decode count ws pool) (getD (keysOf n n ws) i 0))) key) (m : o ≡ k) where
-    pub reads-before : isLess k ≡ isBefore (variablesIn n count v ws pool) key i
-    reads-before = rw (← name-read i q) (told-before (poolText (tokenAt (decode count ws pool) (getD (keysOf n n ws) i 0))) key o k e m)
+  module _ (i : ℕ) (key : List ℕ) (q : i < v) (o k : Order) (e : o ≡ orderOf (poolText (tokenAt (decode count ws pool) (getD (keysFrom first v ws) i 0))) key) (m : o ≡ k) where
+    pub reads-before : isLess k ≡ isBefore (variablesFrom first n count v ws pool) key i
+    reads-before = rw (← name-read i q) (told-before (poolText (tokenAt (decode count ws pool) (getD (keysFrom first v ws) i 0))) key o k e m)
 
-    pub reads-same : isEqual k ≡ isSame (variablesIn n count v ws pool) key i
-    reads-same = rw (← name-read i q) (told-same (poolText (tokenAt (decode count ws pool) (getD (keysOf n n ws) i 0))) key o k e m)
+    pub reads-same : isEqual k ≡ isSame (variablesFrom first n count v ws pool) key i
+    reads-same = rw (← name-read i q) (told-same (poolText (tokenAt (decode count ws pool) (getD (keysFrom first v ws) i 0))) key o k e m)
 
   -- what a search for `key` found
-  module _ (key : List ℕ) (p : ℕ) (q : p ≡ placeFor key (variablesIn n count v ws pool)) where
-    found : p < v → isSame (variablesIn n count v ws pool) key p ≡ true → (p ≡ rankOf key (variablesIn n count v ws pool)) × (assigned key (variablesIn n count v ws pool) ≡ true)
+  module _ (key : List ℕ) (p : ℕ) (q : p ≡ placeFor key (variablesFrom first n count v ws pool)) where
+    found : p < v → isSame (variablesFrom first n count v ws pool) key p ≡ true → (p ≡ rankOf key (variablesFrom first n count v ws pool)) × (assigned key (variablesFrom first n count v ws pool) ≡ true)
     found h z =
         let l = table-length in
-        let x = place-found key (variablesIn n count v ws pool) (S .sorted) (omega arith) (rw q at z) in
+        let x = place-found key (variablesFrom first n count v ws pool) (S .sorted) (omega arith) (rw q at z) in
         (q ∙ x .0, x .1)
 
-    none : (p < v → isSame (variablesIn n count v ws pool) key p ≡ false) → (v ≡ rankOf key (variablesIn n count v ws pool)) × (assigned key (variablesIn n count v ws pool) ≡ false)
+    none : (p < v → isSame (variablesFrom first n count v ws pool) key p ≡ false) → (v ≡ rankOf key (variablesFrom first n count v ws pool)) × (assigned key (variablesFrom first n count v ws pool) ≡ false)
     none h =
         let l = table-length in
-        let x = place-none key (variablesIn n count v ws pool) (S .sorted) (λ a. ap (isSame (variablesIn n count v ws pool) key) (sym q) ∙ h (omega arith)) in
+        let x = place-none key (variablesFrom first n count v ws pool) (S .sorted) (λ a. ap (isSame (variablesFrom first n count v ws pool) key) (sym q) ∙ h (omega arith)) in
         (sym l ∙ x .0, x .1)
 
-    pub assigned-by : (b : Bool) → p < v → b ≡ isSame (variablesIn n count v ws pool) key p → b ≡ assigned key (variablesIn n count v ws pool)
+    pub assigned-by : (b : Bool) → p < v → b ≡ isSame (variablesFrom first n count v ws pool) key p → b ≡ assigned key (variablesFrom first n count v ws pool)
     assigned-by b h x = go b refl
       where
-        go : (c : Bool) → b ≡ c → b ≡ assigned key (variablesIn n count v ws pool)
+        go : (c : Bool) → b ≡ c → b ≡ assigned key (variablesFrom first n count v ws pool)
         go true y = y ∙ sym (found h (sym x ∙ y) .1)
         go false y = y ∙ sym (none (λ _. sym x ∙ y) .1)
 
-    pub assigned-past : v ≤ p → false ≡ assigned key (variablesIn n count v ws pool)
+    pub assigned-past : v ≤ p → false ≡ assigned key (variablesFrom first n count v ws pool)
     assigned-past h = sym (none (λ a. absurd (omega arith)) .1)
 
-  pub search-start : (key : List ℕ) → Searching (variablesIn n count v ws pool) v key 0 v
-  search-start key = record { bracket = bracket-start (isBefore (variablesIn n count v ws pool) key) v; not-there = λ h. absurd (omega arith) }
+  pub search-start : (key : List ℕ) → Searching (variablesFrom first n count v ws pool) v key 0 v
+  search-start key = record { bracket = bracket-start (isBefore (variablesFrom first n count v ws pool) key) v; not-there = λ h. absurd (omega arith) }
 
-  module _ (key : List ℕ) (lo hi : ℕ) (B : Searching (variablesIn n count v ws pool) v key lo hi) where
-    pub search-end : hi ≤ lo → v ≡ rankOf key (variablesIn n count v ws pool)
+  module _ (key : List ℕ) (lo hi : ℕ) (B : Searching (variablesFrom first n count v ws pool) v key lo hi) where
+    pub search-end : hi ≤ lo → v ≡ rankOf key (variablesFrom first n count v ws pool)
     search-end h =
         let e : lo ≡ hi = omega (arith, B .bracket .lo-le) in
-        none key lo (bracket-end (variablesIn n count v ws pool) key v lo hi table-length h (B .bracket)) (λ l. ap (isSame (variablesIn n count v ws pool) key) e ∙ B .not-there (omega arith)) .0
+        none key lo (bracket-end (variablesFrom first n count v ws pool) key v lo hi table-length h (B .bracket)) (λ l. ap (isSame (variablesFrom first n count v ws pool) key) e ∙ B .not-there (omega arith)) .0
 
     -- by how the name in the middle compares
-    module _ (d : lo < hi) (o : Order) (e : o ≡ orderOf (poolText (tokenAt (decode count ws pool) (getD (keysOf n n ws) (lo + (hi - lo) / 2) 0))) key) where
+    module _ (d : lo < hi) (o : Order) (e : o ≡ orderOf (poolText (tokenAt (decode count ws pool) (getD (keysFrom first v ws) (lo + (hi - lo) / 2) 0))) key) where
       abbrev m : ℕ
       m = lo + (hi - lo) / 2
 
@@ -258,26 +257,26 @@ module _ (n count v : ℕ) (ws pool : List ℕ) (S : Searchable n count v ws poo
       in-table : m < v
       in-table = let g = h in omega (arith, B .bracket .hi-le)
 
-      pub search-up : o ≡ Less → Searching (variablesIn n count v ws pool) v key (lo + (hi - lo) / 2 + 1) hi
+      pub search-up : o ≡ Less → Searching (variablesFrom first n count v ws pool) v key (lo + (hi - lo) / 2 + 1) hi
       unfolding isLess
       search-up q =
           record {
-            bracket = go-up (variablesIn n count v ws pool) key v lo hi table-length (S .sorted) (B .bracket) m p h (sym (reads-before m key in-table o Less e q));
+            bracket = go-up (variablesFrom first n count v ws pool) key v lo hi table-length (S .sorted) (B .bracket) m p h (sym (reads-before m key in-table o Less e q));
             not-there = B .not-there;
           }
 
-      pub search-down : o ≡ Greater → Searching (variablesIn n count v ws pool) v key lo (lo + (hi - lo) / 2)
+      pub search-down : o ≡ Greater → Searching (variablesFrom first n count v ws pool) v key lo (lo + (hi - lo) / 2)
       unfolding isLess isEqual
       search-down q =
           record {
-            bracket = go-down (variablesIn n count v ws pool) key v lo hi table-length (S .sorted) (B .bracket) m p h (sym (reads-before m key in-table o Greater e q));
+            bracket = go-down (variablesFrom first n count v ws pool) key v lo hi table-length (S .sorted) (B .bracket) m p h (sym (reads-before m key in-table o Greater e q));
             not-there = λ l. sym (reads-same m key in-table o Greater e q);
           }
 
-      pub search-found : o ≡ Equal → lo + (hi - lo) / 2 ≡ rankOf key (variablesIn n count v ws pool)
+      pub search-found : o ≡ Equal → lo + (hi - lo) / 2 ≡ rankOf key (variablesFrom first n count v ws pool)
       unfolding isLess isEqual
       search-found q =
-          let vs = variablesIn n count v ws pool in
+          let vs = variablesFrom first n count v ws pool in
           let l = table-length in
           let b = go-down vs key v lo hi table-length (S .sorted) (B .bracket) m p h (sym (reads-before m key in-table o Equal e q)) in
           let z : isSame vs key m ≡ true = sym (reads-same m key in-table o Equal e q) in

@@ -11,7 +11,7 @@ use Rattle.rules.specs.Tokens.{Token, isA, Text}
 use Rattle.rules.specs.Lines.{Part, Assignment, Field, Template, string, list, isString}
 use Rattle.tokens.specs.Entries.{decode, tokenAt, kindAt}
 use Rattle.tokens.proofs.TokenLaws.{kind-at}
-use Rattle.workspace.specs.Map.{Dropped, partsBetween, keysOf, startsOf, endsOf, variableAt, argumentsFrom, templateAt, fieldOfEntry}
+use Rattle.workspace.specs.Map.{Dropped, partsBetween, startsOf, endsOf, variableAt, argumentsFrom, templateAt, fieldOfEntry}
 use Rattle.names.specs.Store.{All, Texts}
 use Rattle.lines.specs.Rows.{RowWithin}
 use Rattle.lines.proofs.Parts.{parts-same, arguments-same, start-same, end-same}

@@ -24,7 +24,7 @@ use Rattle.answers.specs.Tells.{Tells}
 use Rattle.scan.proofs.Lists.{cell-in}
 use Rattle.tokens.specs.Entries.{decode, tokenAt, poolText, kindAt}
 use Rattle.tokens.proofs.TokenLaws.{decode-same}
-use Rattle.workspace.specs.Map.{Dropped, partsOf, partsBetween, keysOf, startsOf, endsOf, argumentsFrom, templateAt, variablesIn, fieldIn, fieldOfEntry, Holds}
+use Rattle.workspace.specs.Map.{Dropped, partsOf, partsBetween, keysFrom, startsOf, endsOf, argumentsFrom, templateAt, variablesFrom, fieldIn, fieldOfEntry}
 use Rattle.names.specs.Store.{All, Texts}
 use Rattle.names.proofs.Places.{text-pooled}
 use Rattle.fields.specs.Seen.{bitAt, Marks, fieldNumber}
@@ -178,14 +178,16 @@ module _ (n count end key from : ℕ) (ws pool : List ℕ) (s : Progress) (A : A
             after = λ k x y. all-other k (λ p q. omega arith) (λ p q. omega arith) (λ p q. omega arith) (λ e. omega arith) (λ e. omega arith) (λ e. omega arith);
           }
 
-      keys-are : keysOf n (s .variables) w′ ≡ keysOf n (s .variables) ws
+      keys-are : keysFrom (s .first) (s .variables) w′ ≡ keysFrom (s .first) (s .variables) ws
       keys-are =
           let i = small-key in
           let v = A .ready .few in
+          let low = A .ready .low in
+          let high = A .ready .high in
           let o = A .ready .on in
           let d = A .ready .tokens in
           let g = A .ends .inside in
-          part-same (4 * n) (s .variables) ws w′ kept-long
+          part-same (s .first) (s .variables) ws w′ kept-long
           (λ k x y. all-other k (λ p q. omega arith) (λ p q. omega arith) (λ p q. omega arith) (λ e. omega arith) (λ e. omega arith) (λ e. omega arith))
 
       entry-other : (g : ℕ) → g ≤ 10 → (g ≡ f → ⊥) → getD w′ (12 * n + g) 0 ≡ getD ws (12 * n + g) 0
@@ -205,8 +207,8 @@ module _ (n count end key from : ℕ) (ws pool : List ℕ) (s : Progress) (A : A
           token-same count ws w′ pool key (λ k x y. all-other k (λ p q. omega arith) (λ p q. omega arith) (λ p q. omega arith) (λ e. omega arith) (λ e. omega arith) (λ e. omega arith))
 
       module _ (W : FieldWithin n f (past count end) w′ key) where
-        ready-kept : Ready n count (s .variables) (past count end) w′ pool
-        unfolding variablesIn
+        ready-kept : Ready (s .first) n count (s .variables) (past count end) w′ pool
+        unfolding variablesFrom
         ready-kept =
             let R = A .ready in
             let o = past-on count end in
@@ -216,7 +218,7 @@ module _ (n count end key from : ℕ) (ws pool : List ℕ) (s : Progress) (A : A
             let k2 = A .stands .value-on in
             let k3 = A .stands .inside in
             let q = R .few-more (omega (arith, key-in)) in
-            let V1 = variables-same n count (s .next) (past count end) ws w′ frame (R .tokens) (R .on) pool (keysOf n (s .variables) ws) (R .within .variables) in
+            let V1 = variables-same n count (s .next) (past count end) ws w′ frame (R .tokens) (R .on) pool (keysFrom (s .first) (s .variables) ws) (R .within .variables) in
             record {
               small = R .small;
               room = omega (arith, R .room, kept-long);
@@ -224,10 +226,12 @@ module _ (n count end key from : ℕ) (ws pool : List ℕ) (s : Progress) (A : A
               on = c;
               few = omega arith;
               few-more = λ _. omega arith;
+              low = R .low;
+              high = R .high;
               sorted = rw (keys-are, V1) (R .sorted);
-              texts = rw keys-are (texts-same n count (s .next) (past count end) ws w′ frame (R .tokens) (R .on) pool (keysOf n (s .variables) ws) (R .within .variables) (R .texts));
+              texts = rw keys-are (texts-same n count (s .next) (past count end) ws w′ frame (R .tokens) (R .on) pool (keysFrom (s .first) (s .variables) ws) (R .within .variables) (R .texts));
               within = record {
-                variables = rw keys-are (all-map (VariableWithin n (s .next) ws) (VariableWithin n (past count end) w′) (variable-within n count (s .next) (past count end) ws w′ frame (R .tokens) (R .on) (past count end) (omega arith)) (keysOf n (s .variables) ws) (R .within .variables));
+                variables = rw keys-are (all-map (VariableWithin n (s .next) ws) (VariableWithin n (past count end) w′) (variable-within n count (s .next) (past count end) ws w′ frame (R .tokens) (R .on) (past count end) (omega arith)) (keysFrom (s .first) (s .variables) ws) (R .within .variables));
                 fields = λ g x y. entries g x y (decEq g f);
               };
               fresh = fresh-same n count (s .next) (past count end) ws w′ frame (R .tokens) (R .on) (omega arith) (R .fresh);
@@ -243,21 +247,21 @@ module _ (n count end key from : ℕ) (ws pool : List ℕ) (s : Progress) (A : A
           new : Field
           new = record { number = f; key = tokenAt (decode count ws pool) key; value = value }
 
-          give-kept : (t : Progress) → bitAt (s .seen) f ≡ false → t .variables ≡ s .variables → t .seen ≡ bitOr (s .seen) (2 ^ f) → t .next ≡ past count end
+          give-kept : (t : Progress) → bitAt (s .seen) f ≡ false → t .variables ≡ s .variables → t .first ≡ s .first → t .seen ≡ bitOr (s .seen) (2 ^ f) → t .next ≡ past count end
               → Takes n count end ws w′ pool s (readField (tokenAt (decode count ws pool) key) (endingAt count end ws pool) (drop from (decode end ws pool))) (Step.More t)
-          unfolding keep _>>=_ fieldIn fieldOfEntry new variablesIn
-          give-kept t z x1 x2 x3 = (
+          unfolding keep _>>=_ fieldIn fieldOfEntry new variablesFrom
+          give-kept t z x1 g x2 x3 = (
             x3,
-            rw (x1, x3) ready-kept,
+            rw (x1, g, x3) ready-kept,
             rw x3 (left-same n count (s .next) (past count end) ws w′ frame (A .ready .tokens) (A .ready .on) pool),
             λ file H.
                 let lacks = absent-by (s .seen) (file .fields) f false (H .marks) (K .high) (sym z) refl in (
                   record { variables = file .variables; fields = file .fields ++ new ∷ [] },
                   ap (λ (i : Result Item). i >>= keep file) item ∙ rw (lacks, keep) refl,
-                  rw (x1, x2)
+                  rw (x1, g, x2)
                       (record {
                         holds = record {
-                          variables = ap (map _) keys-are ∙ variables-same n count (s .next) (past count end) ws w′ frame (A .ready .tokens) (A .ready .on) pool (keysOf n (s .variables) ws) (A .ready .within .variables) ∙ H .holds .variables;
+                          variables = ap (map _) keys-are ∙ variables-same n count (s .next) (past count end) ws w′ frame (A .ready .tokens) (A .ready .on) pool (keysFrom (s .first) (s .variables) ws) (A .ready .within .variables) ∙ H .holds .variables;
                           fields = λ g l h. each file H lacks g l h (decEq g f);
                         };
                         marks = marks-more (s .seen) (file .fields) new (H .marks) (K .high);
@@ -265,7 +269,7 @@ module _ (n count end key from : ℕ) (ws pool : List ℕ) (s : Progress) (A : A
                 ),
           )
             where
-              each : (file : File) → Held n count (s .variables) (s .seen) ws pool file → fieldAt f (file .fields) ≡ none → (g : ℕ) → 1 ≤ g → g ≤ 10 → Dec (g ≡ f) → fieldIn n count w′ pool g ≡ fieldAt g (file .fields ++ new ∷ [])
+              each : (file : File) → Held (s .first) n count (s .variables) (s .seen) ws pool file → fieldAt f (file .fields) ≡ none → (g : ℕ) → 1 ≤ g → g ≤ 10 → Dec (g ≡ f) → fieldIn n count w′ pool g ≡ fieldAt g (file .fields ++ new ∷ [])
               each file H lacks g l h (yes e) =
                   let u : fieldIn n count w′ pool f ≡ fieldAt f (file .fields ++ new ∷ []) =
                   ap (fieldOfEntry (decode count w′ pool) (startsOf n w′) (endsOf n w′) f) kept-entry
@@ -282,7 +286,7 @@ module _ (n count end key from : ℕ) (ws pool : List ℕ) (s : Progress) (A : A
             → (w″ : List ℕ) (r : Step) → KeepsField n count end key a b f w w″ pool s r
             → Takes n count end ws w″ pool s (readField (tokenAt (decode count ws pool) key) (endingAt count end ws pool) (drop from (decode end ws pool))) r
         unfolding w′ keep _>>=_ refusalNumber refusalDetail
-        give-takes value T item w″ (Step.More t) (z, x1, x2, x3, x4) = rw x4 (give-kept value T item t z x1 x2 x3)
+        give-takes value T item w″ (Step.More t) (z, x1, g, x2, x3, x4) = rw x4 (give-kept value T item t z x1 g x2 x3)
         give-takes value T item w″ (Step.Refused x) (z, S) = λ file H.
             let g = given-by (s .seen) (file .fields) f true (H .marks) (K .high) (sym z) refl in
             let k : tokenAt (decode count w pool) key ≡ tokenAt (decode count ws pool) key =

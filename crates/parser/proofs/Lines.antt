@@ -1,13 +1,14 @@
 -- From what one line says to the lines, and from line to line. Assumes nothing.
-use Prim.Native.Nat.{ℕ, zero, suc, _+_, _*_, _-_, _≤_, _<_}
+use Prim.Native.Nat.{ℕ, zero, suc, _+_, _*_, _-_, _/_, _≤_, _<_}
 use mathlib.Core.Path.{_≡_, refl, sym, _∙_, ap, ap₂, subst}
 use mathlib.Core.Bool.{Bool, true, false}
-use mathlib.Core.List.{List, [], _∷_}
+use mathlib.Core.List.{List, [], _∷_, map}
 use mathlib.Core.Option.{Option, none, some}
 use native.Mathlib.Decide.{decLt}
 use native.Mathlib.Omega.{arith}
 use lib.Dec.{ltb}
-use lib.ListN.{length, getD, drop, replicate, length-replicate}
+use lib.ListN.{length, getD, take, drop, replicate, length-replicate}
+use lib.Seq.{take-at}
 use borrow.Author.Tests.{lt-ltb, le-ltb}
 use Rattle.rules.specs.Bytes.{pick}
 use Rattle.rules.specs.Tokens.{Token}
@@ -19,9 +20,10 @@ use Rattle.answers.specs.declared.Answer.{Answer}
 use Rattle.answers.specs.Tells.{Tells}
 use Rattle.tokens.specs.Entries.{decode}
 use Rattle.scan.specs.Stores.{puts}
-use Rattle.scan.proofs.Stores.{length-puts, getD-stored, drop-puts}
+use Rattle.scan.proofs.Lists.{length-part}
+use Rattle.scan.proofs.Stores.{length-puts, getD-puts-below, getD-puts-above, getD-stored, drop-puts, drop-stored}
 use Rattle.tokens.proofs.TokenLaws.{token-end, decode-puts, kinds-puts}
-use Rattle.workspace.specs.Map.{keysOf, startsOf, endsOf, variablesIn, fieldIn, fieldOfEntry, Holds, Room}
+use Rattle.workspace.specs.Map.{keysFrom, startsOf, endsOf, variablesFrom, fieldIn, fieldOfEntry, Room}
 use Rattle.fields.proofs.Bits.{marks-none}
 use Rattle.lines.specs.Line.{EndsLine, lineAt}
 use Rattle.lines.proofs.Starts.{line-newline, line-last}
@@ -31,7 +33,7 @@ use Rattle.parser.specs.declared.Step.the-variants as Step
 use Rattle.parser.specs.declared.Parsed.{Parsed}
 use Rattle.parser.specs.declared.Parsed.the-variants as Parsed
 use Rattle.parser.specs.Parse.{EntryWithin, Within, Fresh, Ready, Held, past, Takes, Steps, NoFields, Parsable, FileHeld, Parses}
-use Rattle.parser.proofs.Frames.{Frame, all-map, variable-within, entry-within, fresh-same}
+use Rattle.parser.proofs.Frames.{Frame, all-map, variables-same, variable-within, texts-same, field-same, entry-within, fresh-same}
 
 -- the token past a line
 module _ (count end : ℕ) where
@@ -122,16 +124,16 @@ module _ (n count end : ℕ) (ws ws′ pool : List ℕ) (s : Progress) (E : Ends
 frame-same : (n j next : ℕ) (ws : List ℕ) → Frame n j next ws ws
 frame-same n j next ws = record { tokens = λ k h. refl; starts = λ k h l. refl; ends = λ k h l. refl; after = λ k h l. refl }
 
-pub takes-empty : (n count end : ℕ) (ws pool : List ℕ) (s : Progress) (item : Result Item) → Ready n count (s .variables) (s .next) ws pool → s .next < count → EndsLine count (s .next) ws end
-    → item ≡ ok empty → (t : Progress) → t .variables ≡ s .variables → t .seen ≡ s .seen → t .next ≡ past count end → Takes n count end ws ws pool s item (Step.More t)
+pub takes-empty : (n count end : ℕ) (ws pool : List ℕ) (s : Progress) (item : Result Item) → Ready (s .first) n count (s .variables) (s .next) ws pool → s .next < count → EndsLine count (s .next) ws end
+    → item ≡ ok empty → (t : Progress) → t .variables ≡ s .variables → t .first ≡ s .first → t .seen ≡ s .seen → t .next ≡ past count end → Takes n count end ws ws pool s item (Step.More t)
 unfolding keep _>>=_
-takes-empty n count end ws pool s item R live E e t a b d =
+takes-empty n count end ws pool s item R live E e t a g b d =
     let p = past-on count end in
     let l = past-in count end (E .inside) in
     let on = E .on in
     let F = frame-same n (s .next) (past count end) ws in (
       d,
-      rw (a, d)
+      rw (a, g, d)
           (record {
             small = R .small;
             room = R .room;
@@ -139,16 +141,18 @@ takes-empty n count end ws pool s item R live E e t a b d =
             on = l;
             few = omega (arith, R .few-more live);
             few-more = λ _. omega (arith, R .few-more live);
+            low = R .low;
+            high = R .high;
             sorted = R .sorted;
             texts = R .texts;
             within = record {
-              variables = all-map _ _ (variable-within n count (s .next) (past count end) ws ws F (R .tokens) (R .on) (past count end) (omega arith)) (keysOf n (s .variables) ws) (R .within .variables);
+              variables = all-map _ _ (variable-within n count (s .next) (past count end) ws ws F (R .tokens) (R .on) (past count end) (omega arith)) (keysFrom (s .first) (s .variables) ws) (R .within .variables);
               fields = λ f x y. entry-within n count (s .next) (past count end) ws ws F (R .tokens) (R .on) f (past count end) (getD ws (12 * n + f) 0) (omega arith) (R .within .fields f x y);
             };
             fresh = fresh-same n count (s .next) (past count end) ws ws F (R .tokens) (R .on) (omega arith) (R .fresh);
           }),
       refl,
-      λ file H. (file, rw (e, _>>=_) refl, rw (a, b) H),
+      λ file H. (file, rw (e, _>>=_) refl, rw (a, g, b) H),
     )
 
 pub takes-refused : (n count end : ℕ) (ws ws′ pool : List ℕ) (s : Progress) (item : Result Item) (r : Refusal) (a : Answer) → item ≡ refused r → Tells a (Rules.Refused r) → Takes n count end ws ws′ pool s item (Step.Refused a)
@@ -160,28 +164,30 @@ takes-item n count end ws ws′ pool s item item′ r e T = subst (λ (x : Resul
 
 -- the loop over lines
 pub record Parsing (n count : ℕ) (ws₀ ws pool : List ℕ) (s : Progress) : Type 0 where
-  pub ready : Ready n count (s .variables) (s .next) ws pool
+  pub ready : Ready (s .first) n count (s .variables) (s .next) ws pool
   pub beyond : drop (12 * n + 64) ws ≡ drop (12 * n + 64) ws₀
-  pub left : (file : File) × (readLines noLines (lines (decode count ws₀ pool)) ≡ readLines file (lines (drop (s .next) (decode count ws pool)))) × Held n count (s .variables) (s .seen) ws pool file
+  pub left : (file : File) × (readLines noLines (lines (decode count ws₀ pool)) ≡ readLines file (lines (drop (s .next) (decode count ws pool)))) × Held (s .first) n count (s .variables) (s .seen) ws pool file
 
-pub parse-begin : (n count : ℕ) (ws pool : List ℕ) (s : Progress) → s .variables ≡ 0 → s .seen ≡ 0 → s .next ≡ 0 → Parsable n count ws → NoFields n ws → Parsing n count ws ws pool s
-unfolding noLines variablesIn fieldIn fieldOfEntry fieldAt
-parse-begin n count ws pool s a b d P z =
+pub parse-begin : (n count : ℕ) (ws pool : List ℕ) (s : Progress) → s .variables ≡ 0 → s .first ≡ 4 * n + n / 2 → s .seen ≡ 0 → s .next ≡ 0 → Parsable n count ws → NoFields n ws → Parsing n count ws ws pool s
+unfolding noLines variablesFrom fieldIn fieldOfEntry fieldAt
+parse-begin n count ws pool s a g b d P z =
     record {
-      ready = rw (a, d) (record {
+      ready = rw (a, g, d) (record {
         small = P .small;
         room = P .room;
         tokens = P .tokens;
         on = omega arith;
         few = omega arith;
         few-more = λ _. omega arith;
+        low = omega arith;
+        high = omega arith;
         sorted = tt;
         texts = tt;
         within = record { variables = tt; fields = λ f x y. rw (z f y) tt };
         fresh = P .fresh;
       });
       beyond = refl;
-      left = (noLines, rw d refl, rw (a, b) (record { holds = record { variables = refl; fields = λ f x y. rw (z f y) refl }; marks = marks-none }));
+      left = (noLines, rw d refl, rw (a, g, b) (record { holds = record { variables = refl; fields = λ f x y. rw (z f y) refl }; marks = marks-none }));
     }
 
 module _ (n count : ℕ) (ws₀ ws ws′ pool : List ℕ) (s : Progress) (P : Parsing n count ws₀ ws pool s) (B : drop (12 * n + 64) ws′ ≡ drop (12 * n + 64) ws) where
@@ -193,20 +199,88 @@ module _ (n count : ℕ) (ws₀ ws ws′ pool : List ℕ) (s : Progress) (P : Pa
   pub parse-refused : (a : Answer) → Steps n count ws ws′ pool s (Step.Refused a) → Parses n count ws₀ ws′ pool (Parsed.Refused a)
   parse-refused a f = let x = f (P .left .0) (P .left .2) in (x .0, P .left .1 ∙ x .1, x .2)
 
-pub parse-done : (n count : ℕ) (ws₀ ws pool : List ℕ) (s : Progress) → Parsing n count ws₀ ws pool s → count ≤ s .next → Parses n count ws₀ ws pool (Parsed.Lines (s .variables))
-parse-done n count ws₀ ws pool s P h =
-    let R = P .ready in
-    let e : s .next ≡ count = omega (arith, R .on) in (
-      P .left .0,
-      P .left .1 ∙ ap (λ (l : List Token). readLines (P .left .0) (lines l)) (token-end count ws pool (s .next) h) ∙ lines-none (P .left .0),
+-- the keys go to 4n
+module _ (first n count v : ℕ) (ws pool : List ℕ) (R : Ready first n count v count ws pool) where
+  ws′ : List ℕ
+  ws′ = puts ws (4 * n) (keysFrom first v ws)
+
+  length-keys : length (keysFrom first v ws) ≡ v
+  length-keys = length-part ws first v (omega (arith, R .low, R .high, R .few, R .tokens, R .room))
+
+  other : (k : ℕ) → (4 * n ≤ k → k < 5 * n → ⊥) → getD ws′ k 0 ≡ getD ws k 0
+  unfolding ws′
+  other k h = elim (decLt k (4 * n)) [
+    | yes l ↦ getD-puts-below ws (4 * n) (keysFrom first v ws) k 0 l
+    | no l ↦ getD-puts-above ws (4 * n) (keysFrom first v ws) k 0
+        (elim (decLt k (5 * n)) [ yes m ↦ absurd (h (omega arith) m) | no m ↦ omega (arith, length-keys, R .few, R .tokens) ])
+  ]
+
+  frame : Frame n count count ws ws′
+  frame =
+      let t = R .tokens in
       record {
-        holds = P .left .2 .holds;
-        room = record { small = R .small; room = R .room; tokens = R .tokens; few = omega (arith, R .few) };
-        within = rw e at (R .within);
-        texts = R .texts;
-        sorted = R .sorted;
-      },
-    )
+        tokens = λ k h. other k (λ a b. omega arith);
+        starts = λ k h l. other (5 * n + k) (λ a b. omega arith);
+        ends = λ k h l. other (6 * n + k) (λ a b. omega arith);
+        after = λ k h l. other k (λ a b. omega arith);
+      }
+
+  keys-are : keysFrom (4 * n) v ws′ ≡ keysFrom first v ws
+  unfolding ws′
+  keys-are =
+      let l = length-keys in
+      ap (take v) (drop-stored ws (4 * n) (keysFrom first v ws) (omega (arith, R .few, R .tokens, R .room))) ∙ take-at (keysFrom first v ws) (drop (4 * n + length (keysFrom first v ws)) ws) v l
+
+  entry-is : (f : ℕ) → getD ws′ (12 * n + f) 0 ≡ getD ws (12 * n + f) 0
+  entry-is f = other (12 * n + f) (λ a b. omega arith)
+
+  variables-are : variablesFrom (4 * n) n count v ws′ pool ≡ variablesFrom first n count v ws pool
+  unfolding variablesFrom
+  variables-are = ap (map _) keys-are ∙ variables-same n count count count ws ws′ frame (R .tokens) (R .on) pool (keysFrom first v ws) (R .within .variables)
+
+  settled-within : Within (4 * n) n v count ws′
+  settled-within =
+      record {
+        variables = rw keys-are (all-map _ _ (variable-within n count count count ws ws′ frame (R .tokens) (R .on) count (omega arith)) (keysFrom first v ws) (R .within .variables));
+        fields = λ f x y. rw (entry-is f) (entry-within n count count count ws ws′ frame (R .tokens) (R .on) f count (getD ws (12 * n + f) 0) (omega arith) (R .within .fields f x y));
+      }
+
+  settled-held : (seen : ℕ) (file : File) → Held first n count v seen ws pool file → FileHeld n count v ws′ pool file
+  unfolding fieldIn ws′
+  settled-held seen file H =
+      record {
+        holds = record {
+          variables = variables-are ∙ H .holds .variables;
+          fields = λ f x y.
+              ap (fieldOfEntry (decode count ws′ pool) (startsOf n ws′) (endsOf n ws′) f) (entry-is f)
+              ∙ field-same n count count count ws ws′ frame (R .tokens) (R .on) pool f (getD ws (12 * n + f) 0) (R .within .fields f x y) ∙ H .holds .fields f x y;
+        };
+        room = record { small = R .small; room = omega (arith, R .room, length-puts ws (4 * n) (keysFrom first v ws)); tokens = R .tokens; few = R .few };
+        within = settled-within;
+        texts = rw keys-are (texts-same n count count count ws ws′ frame (R .tokens) (R .on) pool (keysFrom first v ws) (R .within .variables) (R .texts));
+        sorted = rw variables-are (R .sorted);
+      }
+
+module _ (n count : ℕ) (ws₀ ws pool : List ℕ) (s : Progress) (P : Parsing n count ws₀ ws pool s) (h : count ≤ s .next) where
+  read : Ready (s .first) n count (s .variables) count ws pool
+  read = let e : s .next ≡ count = omega (arith, P .ready .on) in rw e at (P .ready)
+
+  pub settle-asks : (4 * n ≤ s .first) × (s .first + s .variables ≤ length ws)
+  settle-asks = let R = read in (omega (arith, R .low, R .few, R .tokens), omega (arith, R .high, R .few, R .tokens, R .room))
+
+  pub parse-done : (ws′ : List ℕ) → ws′ ≡ puts ws (4 * n) (keysFrom (s .first) (s .variables) ws) → Parses n count ws₀ ws′ pool (Parsed.Lines (s .variables))
+  unfolding ws′
+  parse-done w e = (
+    P .left .0,
+    P .left .1 ∙ ap (λ (l : List Token). readLines (P .left .0) (lines l)) (token-end count ws pool (s .next) h) ∙ lines-none (P .left .0),
+    rw e (settled-held (s .first) n count (s .variables) ws pool read (s .seen) (P .left .0) (P .left .2)),
+  )
+
+  pub done-beyond : (ws′ : List ℕ) → ws′ ≡ puts ws (4 * n) (keysFrom (s .first) (s .variables) ws) → drop (12 * n + 64) ws′ ≡ drop (12 * n + 64) ws₀
+  done-beyond w e =
+      let R = read in
+      ap (drop (12 * n + 64)) e
+      ∙ drop-puts (12 * n + 64) ws (4 * n) (keysFrom (s .first) (s .variables) ws) (omega (arith, length-keys (s .first) n count (s .variables) ws pool R, R .few, R .tokens)) ∙ P .beyond
 
 -- the fields' entries are zero at first
 module _ (n count : ℕ) (ws : List ℕ) (P : Parsable n count ws) where

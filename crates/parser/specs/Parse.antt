@@ -1,5 +1,5 @@
 -- What reading lines leaves in the workspace, and what it answers. Assumes nothing.
-use Prim.Native.Nat.{ℕ, zero, suc, _+_, _*_, _^_, _≤_, _<_}
+use Prim.Native.Nat.{ℕ, zero, suc, _+_, _*_, _/_, _^_, _≤_, _<_}
 use mathlib.Core.Path.{_≡_}
 use mathlib.Core.Bool.{Bool, true, false}
 use mathlib.Core.List.{List, [], _∷_}
@@ -18,7 +18,7 @@ use Rattle.answers.specs.declared.Number.the-variants.{DuplicateField}
 use Rattle.answers.specs.declared.Answer.{Answer}
 use Rattle.answers.specs.Tells.{Names, Tells}
 use Rattle.tokens.specs.Entries.{decode, tokenAt, kindAt}
-use Rattle.workspace.specs.Map.{Dropped, keysOf, startsOf, endsOf, variablesIn, Holds, Room}
+use Rattle.workspace.specs.Map.{Dropped, keysFrom, keysOf, startsOf, endsOf, variablesFrom, variablesIn, HoldsFrom, Holds, Room}
 use Rattle.names.specs.Store.{All, Texts}
 use Rattle.fields.specs.Seen.{bitAt, Marks}
 use Rattle.lines.specs.Line.{EndsLine, Stands}
@@ -55,30 +55,32 @@ EntryWithin n f j ws zero = Unit {0}
 EntryWithin n f j ws (suc k) = FieldWithin n f j ws k
 
 -- all that the map reads lies before token j
-pub record Within (n v j : ℕ) (ws : List ℕ) : Type 0 where
-  pub variables : All (VariableWithin n j ws) (keysOf n v ws)
+pub record Within (first n v j : ℕ) (ws : List ℕ) : Type 0 where
+  pub variables : All (VariableWithin n j ws) (keysFrom first v ws)
   pub fields : (f : ℕ) → 1 ≤ f → f ≤ 10 → EntryWithin n f j ws (getD ws (12 * n + f) 0)
 
 -- tokens from j on that are yet to be read: none was dropped
 abbrev pub Fresh : ℕ → ℕ → List ℕ → Type 0
 Fresh count j ws = (k : ℕ) → j ≤ k → k < count → kindAt count ws k ≡ Dropped → ⊥
 
--- the lines before token j are read
-pub record Ready (n count v j : ℕ) (ws pool : List ℕ) : Type 0 where
+-- the lines before token j are read; the v keys stand from place `first` on, about the middle of their column
+pub record Ready (first n count v j : ℕ) (ws pool : List ℕ) : Type 0 where
   pub small : n ≤ 65535
   pub room : 12 * n + 64 ≤ length ws
   pub tokens : count ≤ n
   pub on : j ≤ count
   pub few : 3 * v ≤ j + 1
   pub few-more : j < count → 3 * v ≤ j
-  pub sorted : Sorted (variablesIn n count v ws pool)
-  pub texts : Texts (decode count ws pool) (keysOf n v ws)
-  pub within : Within n v j ws
+  pub low : 4 * n + n / 2 ≤ first + v
+  pub high : first ≤ 4 * n + n / 2
+  pub sorted : Sorted (variablesFrom first n count v ws pool)
+  pub texts : Texts (decode count ws pool) (keysFrom first v ws)
+  pub within : Within first n v j ws
   pub fresh : Fresh count j ws
 
 -- and this is the file that they say; `seen` has its fields
-pub record Held (n count v seen : ℕ) (ws pool : List ℕ) (file : File) : Type 0 where
-  pub holds : Holds n count v ws pool file
+pub record Held (first n count v seen : ℕ) (ws pool : List ℕ) (file : File) : Type 0 where
+  pub holds : HoldsFrom first n count v ws pool file
   pub marks : Marks seen (file .fields)
 
 -- the first token past the line that ends at `end`
@@ -88,15 +90,15 @@ past count end = pick (ltb end count) (end + 1) end
 -- what a line that reads as `item` makes of the lines before it
 abbrev pub Takes : ℕ → ℕ → ℕ → List ℕ → List ℕ → List ℕ → Progress → Result Item → Step → Type 0
 Takes n count end ws ws′ pool s item (Step.More t) =
-    (t .next ≡ past count end) × Ready n count (t .variables) (t .next) ws′ pool × (drop (t .next) (decode count ws′ pool) ≡ drop (t .next) (decode count ws pool))
-    × ((file : File) → Held n count (s .variables) (s .seen) ws pool file
-    → (more : File) × ((item >>= keep file) ≡ ok more) × Held n count (t .variables) (t .seen) ws′ pool more)
+    (t .next ≡ past count end) × Ready (t .first) n count (t .variables) (t .next) ws′ pool × (drop (t .next) (decode count ws′ pool) ≡ drop (t .next) (decode count ws pool))
+    × ((file : File) → Held (s .first) n count (s .variables) (s .seen) ws pool file
+    → (more : File) × ((item >>= keep file) ≡ ok more) × Held (t .first) n count (t .variables) (t .seen) ws′ pool more)
 Takes n count end ws ws′ pool s item (Step.Refused a) =
-    (file : File) → Held n count (s .variables) (s .seen) ws pool file → (r : Refusal) × ((item >>= keep file) ≡ refused r) × Tells a (Rules.Refused r)
+    (file : File) → Held (s .first) n count (s .variables) (s .seen) ws pool file → (r : Refusal) × ((item >>= keep file) ≡ refused r) × Tells a (Rules.Refused r)
 
 -- a line whose key and value stand at `key` and `from`
 pub record AtValue (n count end key from : ℕ) (ws pool : List ℕ) (s : Progress) : Type 0 where
-  pub ready : Ready n count (s .variables) (s .next) ws pool
+  pub ready : Ready (s .first) n count (s .variables) (s .next) ws pool
   pub ends : EndsLine count (s .next) ws end
   pub stands : Stands count end (s .next) key from ws
 
@@ -112,7 +114,7 @@ keptField n key a b f ws = set (set (set ws (5 * n + key) a) (6 * n + key) b) (1
 
 abbrev pub KeepsField : ℕ → ℕ → ℕ → ℕ → ℕ → ℕ → ℕ → List ℕ → List ℕ → List ℕ → Progress → Step → Type 0
 KeepsField n count end key a b f ws ws′ pool s (Step.More t) =
-    (bitAt (s .seen) f ≡ false) × (t .variables ≡ s .variables) × (t .seen ≡ bitOr (s .seen) (2 ^ f)) × (t .next ≡ past count end) × (ws′ ≡ keptField n key a b f ws)
+    (bitAt (s .seen) f ≡ false) × (t .variables ≡ s .variables) × (t .first ≡ s .first) × (t .seen ≡ bitOr (s .seen) (2 ^ f)) × (t .next ≡ past count end) × (ws′ ≡ keptField n key a b f ws)
 KeepsField n count end key a b f ws ws′ pool s (Step.Refused x) = (bitAt (s .seen) f ≡ true) × Says x DuplicateField 0 (shownName (tokenAt (decode count ws pool) key))
 
 -- what is past the workspace's part for a text of n bytes is as it was
@@ -122,11 +124,11 @@ Beyond n ws ws′ = drop (12 * n + 64) ws′ ≡ drop (12 * n + 64) ws
 -- what one line makes of the lines before it
 abbrev pub Steps : ℕ → ℕ → List ℕ → List ℕ → List ℕ → Progress → Step → Type 0
 Steps n count ws ws′ pool s (Step.More t) =
-    Ready n count (t .variables) (t .next) ws′ pool × (s .next < t .next)
-    × ((file : File) → Held n count (s .variables) (s .seen) ws pool file
-    → (more : File) × (readLines file (lines (drop (s .next) (decode count ws pool))) ≡ readLines more (lines (drop (t .next) (decode count ws′ pool)))) × Held n count (t .variables) (t .seen) ws′ pool more)
+    Ready (t .first) n count (t .variables) (t .next) ws′ pool × (s .next < t .next)
+    × ((file : File) → Held (s .first) n count (s .variables) (s .seen) ws pool file
+    → (more : File) × (readLines file (lines (drop (s .next) (decode count ws pool))) ≡ readLines more (lines (drop (t .next) (decode count ws′ pool)))) × Held (t .first) n count (t .variables) (t .seen) ws′ pool more)
 Steps n count ws ws′ pool s (Step.Refused a) =
-    (file : File) → Held n count (s .variables) (s .seen) ws pool file → (r : Refusal) × (readLines file (lines (drop (s .next) (decode count ws pool))) ≡ refused r) × Tells a (Rules.Refused r)
+    (file : File) → Held (s .first) n count (s .variables) (s .seen) ws pool file → (r : Refusal) × (readLines file (lines (drop (s .next) (decode count ws pool))) ≡ refused r) × Tells a (Rules.Refused r)
 
 -- no field is in the workspace
 abbrev pub NoFields : ℕ → List ℕ → Type 0
@@ -143,7 +145,7 @@ pub record Parsable (n count : ℕ) (ws : List ℕ) : Type 0 where
 pub record FileHeld (n count v : ℕ) (ws pool : List ℕ) (file : File) : Type 0 where
   pub holds : Holds n count v ws pool file
   pub room : Room n count v ws
-  pub within : Within n v count ws
+  pub within : Within (4 * n) n v count ws
   pub texts : Texts (decode count ws pool) (keysOf n v ws)
   pub sorted : Sorted (variablesIn n count v ws pool)
 

@@ -26,6 +26,7 @@ use lines::list::Listed;
 use lines::list::list_value;
 use names::Insertion;
 use names::insert;
+use names::settle;
 use scan::class::ByteClass;
 use scan::class::CLASS;
 use scan::class::class_in;
@@ -35,8 +36,9 @@ use tokens::place_at;
 use tokens::text_at;
 
 pub struct Progress {
-    // variables stored
+    // variables stored, and where their keys begin
     pub variables: usize,
+    pub first: usize,
     // the fields already seen
     pub seen: u32,
     // the next line's first token
@@ -136,6 +138,7 @@ fn keep_field(
     ws[12 * n + (f as usize)] = (key + 1) as u32;
     Step::More(Progress {
         variables: s.variables,
+        first: s.first,
         seen: Seen::with(s.seen, f),
         next: past_line(count, end),
     })
@@ -159,15 +162,16 @@ fn assign(
 {
     let to = value_end(ws, count, end, from);
     if is_variable_name(table, text_at(ws, pool, count, key)) {
-        let stored = insert(ws, pool, n, count, s.variables, key, from, to);
+        let stored = insert(ws, pool, n, count, s.first, s.variables, key, from, to);
         return match stored {
             Insertion::Duplicate => Step::Refused(refusal(
                 Number::DuplicateVariable,
                 0,
                 name_at(ws, pool, count, key),
             )),
-            Insertion::Inserted => Step::More(Progress {
+            Insertion::Inserted(begin) => Step::More(Progress {
                 variables: s.variables + 1,
+                first: begin,
                 seen: s.seen,
                 next: past_line(count, end),
             }),
@@ -240,7 +244,7 @@ fn unexpected(ws: &[u32], pool: &[u8], count: usize, k: usize, number: Number) -
 
 // The line that starts at token s.next.
 fn line(table: &[u8; 256], ws: &mut [u32], pool: &[u8], n: usize, count: usize, s: Progress) -> Step
-    requires { ⌜ ClassTable (now table) × Ready n count (s .variables) (s .next) (now ws) (now pool) × (s .next < count) ⌝ }
+    requires { ⌜ ClassTable (now table) × Ready (s .first) n count (s .variables) (s .next) (now ws) (now pool) × (s .next < count) ⌝ }
     ensures { λ r. ⌜ Steps n count (now (ws .entry)) (now (ws .exit)) (now (pool .entry)) s r × Beyond n (now (ws .entry)) (now (ws .exit)) ⌝ }
 {
     let j = s.next;
@@ -249,6 +253,7 @@ fn line(table: &[u8; 256], ws: &mut [u32], pool: &[u8], n: usize, count: usize, 
     match start {
         LineStart::Empty => Step::More(Progress {
             variables: s.variables,
+            first: s.first,
             seen: s.seen,
             next: past_line(count, end),
         }),
@@ -272,13 +277,14 @@ fn line(table: &[u8; 256], ws: &mut [u32], pool: &[u8], n: usize, count: usize, 
     }
 }
 
-// Line after line, where no field is in the workspace yet.
+// Line after line, where no field is in the workspace yet. The keys of variables begin in the middle of their column: they can grow at both ends.
 fn read_lines(table: &[u8; 256], ws: &mut [u32], pool: &[u8], n: usize, count: usize) -> Parsed
     requires { ⌜ ClassTable (now table) × Parsable n count (now ws) × NoFields n (now ws) ⌝ }
     ensures { λ r. ⌜ Parses n count (now (ws .entry)) (now (ws .exit)) (now (pool .entry)) r × Beyond n (now (ws .entry)) (now (ws .exit)) ⌝ }
 {
     let mut s = Progress {
         variables: 0,
+        first: 4 * n + n / 2,
         seen: Seen::NONE,
         next: 0,
     };
@@ -289,6 +295,7 @@ fn read_lines(table: &[u8; 256], ws: &mut [u32], pool: &[u8], n: usize, count: u
             Step::Refused(a) => return Parsed::Refused(a),
         }
     }
+    settle(ws, n, s.first, s.variables);
     Parsed::Lines(s.variables)
 }
 

@@ -29,7 +29,7 @@ use Rattle.answers.specs.declared.Answer.{Answer}
 use Rattle.answers.specs.Tells.{numberOf, Names, Tells}
 use Rattle.tokens.specs.Entries.{decode, tokenAt, fromEntry, entryAt, placeAt}
 use Rattle.tokens.proofs.TokenLaws.{token-by, place-at, length-decode}
-use Rattle.workspace.specs.Map.{Room, keysOf, startsOf, endsOf, lengthsOf, variableAt, variablesIn, rulesIn, fieldIn, fieldsIn, fileIn, Looked, Holds}
+use Rattle.workspace.specs.Map.{Room, keysOf, startsOf, endsOf, lengthsOf, variableAt, variablesFrom, variablesIn, rulesIn, fieldIn, fieldsIn, fileIn, Looked, Holds}
 use Rattle.workspace.proofs.Frames.{Kept, take-low, column-low, decode-low, variables-low, field-low, variables-kept, rules-kept, looked-kept}
 use Rattle.workspace.proofs.Links.{keys-length}
 use Rattle.workspace.proofs.Files.{file-fields}
@@ -89,13 +89,13 @@ key-past f (k ∷ ks) (suc i) h = key-past f ks i (omega arith)
 
 module _ (n count v : ℕ) (ws pool : List ℕ) (R : Room n count v ws) where
   pub key-names : (i k : ℕ) (r : Name) → i < v → k ≡ getD (take v (drop (4 * n) ws)) i 0 → Names r (tokenAt (decode count ws pool) k) → Names r (keyAt (variablesIn n count v ws pool) i)
-  unfolding variablesIn
+  unfolding variablesFrom
   key-names i k r h e m =
       let l = keys-length n count v ws pool (omega (arith, R .room, R .tokens, R .few)) in
       subst (Names r) (ap (tokenAt (decode count ws pool)) e ∙ sym (key-map (variableAt (decode count ws pool) (startsOf n ws) (endsOf n ws)) (keysOf n v ws) i (omega (arith, l)))) m
 
   pub no-key : (i : ℕ) (r : Name) → v ≤ i → r ≡ noNameOf → Names r (keyAt (variablesIn n count v ws pool) i)
-  unfolding variablesIn
+  unfolding variablesFrom
   no-key i r h e =
       let l = keys-length n count v ws pool (omega (arith, R .room, R .tokens, R .few)) in
       subst (Names r) (sym (key-past (variableAt (decode count ws pool) (startsOf n ws) (endsOf n ws)) (keysOf n v ws) i (omega (arith, l)))) (rw e no-names)
@@ -243,7 +243,7 @@ module _ (n count v : ℕ) (ws pool : List ℕ) (F : Filed n count v ws pool) wh
 
   pub lookable : Lookable n count v ws pool
   lookable = record {
-    search = record { room = omega (arith, F .room .room); tokens = F .room .tokens; few = few; texts = F .texts; sorted = F .sorted };
+    search = record { room = omega (arith, F .room .room); tokens = F .room .tokens; few = omega (arith, few); texts = F .texts; sorted = F .sorted };
     room = omega (arith, F .room .room);
     small = F .room .small;
   }

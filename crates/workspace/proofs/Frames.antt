@@ -11,7 +11,7 @@ use Rattle.tokens.specs.Entries.{decode}
 use Rattle.tokens.proofs.TokenLaws.{decode-same}
 use Rattle.scan.specs.Stores.{puts}
 use Rattle.scan.proofs.Stores.{take-puts, drop-puts}
-use Rattle.workspace.specs.Map.{ranksOf, variablesIn, rulesIn, fieldIn, Looked}
+use Rattle.workspace.specs.Map.{ranksOf, variablesFrom, variablesIn, rulesIn, fieldIn, Looked}
 
 take-drop : (n b : ℕ) (l : List ℕ) → take n (drop b l) ≡ drop b (take (b + n) l)
 take-drop n zero l = rw zero-add
@@ -35,7 +35,7 @@ module _ (m : ℕ) (ws ws′ : List ℕ) (low : take m ws′ ≡ take m ws) wher
 -- the variables rest on the first 7n entries
 module _ (n count v : ℕ) (ws ws′ pool : List ℕ) (inside : count ≤ n) (few : v ≤ n) (low : take (7 * n) ws′ ≡ take (7 * n) ws) where
   pub variables-low : variablesIn n count v ws′ pool ≡ variablesIn n count v ws pool
-  unfolding variablesIn
+  unfolding variablesFrom
   variables-low =
       let D = decode-low (7 * n) ws ws′ low count pool (omega arith) in
       let K = column-low (7 * n) ws ws′ low v (4 * n) (omega arith) in

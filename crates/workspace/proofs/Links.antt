@@ -12,7 +12,7 @@ use Rattle.rules.specs.Lines.{asPart, Assignment}
 use Rattle.rules.specs.Variables.{Piece, text, rankOf, lookUp, rulesOf}
 use Rattle.tokens.specs.Entries.{decode, tokenAt}
 use Rattle.tokens.proofs.TokenLaws.{length-decode}
-use Rattle.workspace.specs.Map.{Dropped, partsOf, between, partsBetween, pieceOf, piecesOf, piecesBetween, keysOf, startsOf, endsOf, ranksOf, variableAt, variablesIn, ruleAt, rulesIn, Looked}
+use Rattle.workspace.specs.Map.{Dropped, partsOf, between, partsBetween, pieceOf, piecesOf, piecesBetween, keysOf, startsOf, endsOf, ranksOf, variableAt, variablesFrom, variablesIn, ruleAt, rulesIn, Looked}
 
 piece-looked : (vs : List Assignment) (t : Token) (rank : ℕ) → (isA Variable t ≡ true → rank ≡ rankOf (t .text) vs) → pieceOf rank t ≡ lookUp vs (asPart t)
 unfolding pick lookUp asPart
@@ -62,7 +62,7 @@ module _ (n count : ℕ) (ws pool : List ℕ) (vs : List Assignment) (looked : L
 
   -- so the rules in the workspace are those of its variables
   pub rules-looked : (v : ℕ) → rulesIn n count v ws pool ≡ rulesOf vs (variablesIn n count v ws pool)
-  unfolding rulesIn variablesIn
+  unfolding rulesIn variablesFrom
   rules-looked v = rules-map (keysOf n v ws)
 
 -- how many there are

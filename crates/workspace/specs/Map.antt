@@ -1,6 +1,6 @@
 -- The map of the workspace for a text of n bytes, and the file that it holds once the lines are read. Assumes nothing.
 --   0 .. 4n       tokens, four entries each
---   4n .. 5n      the key tokens of the variables, in byte order of their names
+--   4n .. 5n      the key tokens of the variables, in byte order of their names: from 4n on; while lines are read, from a place in between
 --   5n .. 6n      by key token: the value's first token (of a list: where its arguments' rows begin)
 --   6n .. 7n      by key token: the token past the value (of a list: how many arguments it has)
 --                 by row of an argument: its first token, and the token past it. The rows of a list stand at the tokens of its value.
@@ -40,9 +40,13 @@ between ts from to = take (to - from) (drop from ts)
 abbrev pub partsBetween : List Token → ℕ → ℕ → List Part
 partsBetween ts from to = partsOf (between ts from to)
 
--- the key tokens of v variables, in byte order of their names
+-- the key tokens of v variables, in byte order of their names: from place `first` on
+abbrev pub keysFrom : ℕ → ℕ → List ℕ → List ℕ
+keysFrom first v ws = take v (drop first ws)
+
+-- once all lines are read
 abbrev pub keysOf : ℕ → ℕ → List ℕ → List ℕ
-keysOf n v ws = take v (drop (4 * n) ws)
+keysOf n v ws = keysFrom (4 * n) v ws
 
 abbrev pub startsOf : ℕ → List ℕ → List ℕ
 startsOf n ws = column 5 n ws
@@ -76,9 +80,12 @@ module _ (ts : List Token) (starts ends : List ℕ) where
   fieldOfEntry f zero = none
   fieldOfEntry f (suc k) = some (record { number = f; key = tokenAt ts k; value = templateAt f k })
 
--- the variables in byte order
-unfoldable pub variablesIn : ℕ → ℕ → ℕ → List ℕ → List ℕ → List Assignment
-variablesIn n count v ws pool = map (variableAt (decode count ws pool) (startsOf n ws) (endsOf n ws)) (keysOf n v ws)
+-- the variables in byte order, whose keys stand from place `first` on
+unfoldable pub variablesFrom : ℕ → ℕ → ℕ → ℕ → List ℕ → List ℕ → List Assignment
+variablesFrom first n count v ws pool = map (variableAt (decode count ws pool) (startsOf n ws) (endsOf n ws)) (keysFrom first v ws)
+
+abbrev pub variablesIn : ℕ → ℕ → ℕ → List ℕ → List ℕ → List Assignment
+variablesIn n count v ws pool = variablesFrom (4 * n) n count v ws pool
 
 unfoldable pub fieldIn : ℕ → ℕ → List ℕ → List ℕ → ℕ → Option Field
 fieldIn n count ws pool f = fieldOfEntry (decode count ws pool) (startsOf n ws) (endsOf n ws) f (getD ws (12 * n + f) 0)
@@ -108,10 +115,13 @@ abbrev pub Looked : ℕ → ℕ → List ℕ → List ℕ → List Assignment �
 Looked n count ws pool vs = (j : ℕ) → j < count → isA Variable (tokenAt (decode count ws pool) j) ≡ true
     → getD (ranksOf n ws) j 0 ≡ rankOf (tokenAt (decode count ws pool) j .text) vs
 
--- workspace and pool hold the file: `count` tokens and v variables
-pub record Holds (n count v : ℕ) (ws pool : List ℕ) (file : File) : Type 0 where
-  pub variables : variablesIn n count v ws pool ≡ file .variables
+-- workspace and pool hold the file: `count` tokens and v variables, whose keys stand from place `first` on
+pub record HoldsFrom (first n count v : ℕ) (ws pool : List ℕ) (file : File) : Type 0 where
+  pub variables : variablesFrom first n count v ws pool ≡ file .variables
   pub fields : (f : ℕ) → 1 ≤ f → f ≤ 10 → fieldIn n count ws pool f ≡ fieldAt f (file .fields)
+
+abbrev pub Holds : ℕ → ℕ → ℕ → List ℕ → List ℕ → File → Type 0
+Holds n count v ws pool file = HoldsFrom (4 * n) n count v ws pool file
 
 -- the fields that are given, of k from the f-th on
 unfoldable pub fieldsIn : ℕ → ℕ → List ℕ → List ℕ → ℕ → ℕ → List Field

@@ -405,17 +405,12 @@ fn reason(row: &Row) -> String {
         });
     }
     if row.verdict.contains("growth") {
-        words.push(match row.family {
-            "descending" => "each name goes before all others, and the column of names in byte order moves one entry up for it: \
-                             V\u{b2} / 2 entries in all"
-                .to_owned(),
-            _ => format!(
-                "the reader's instructions grow {:.2} times, but zeroing alone takes {:.2} times as long, where the workspace \
-                 outgrows a cache",
-                row.instructions_growth.unwrap_or(f64::NAN),
-                row.zeroing_growth.unwrap_or(f64::NAN)
-            ),
-        });
+        words.push(format!(
+            "the reader's instructions grow {:.2} times, but zeroing alone takes {:.2} times as long, where the workspace \
+             outgrows a cache",
+            row.instructions_growth.unwrap_or(f64::NAN),
+            row.zeroing_growth.unwrap_or(f64::NAN)
+        ));
     }
     words.join("; ") + "."
 }

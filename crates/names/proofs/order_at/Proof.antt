@@ -3,9 +3,6 @@ use borrow.Author.Needs.{needs}
 use Rattle.names.proofs.order_at.Statement.{statement}
 use Rattle.names.proofs.order_at.Tie as tie
 
-mul-cell : tie.Need-mul-cell
-mul-cell c = search needs
-
 cell-requires : tie.Need-cell-requires
 cell-requires c κs = search needs
 
@@ -20,4 +17,4 @@ returns c = rw (← c .before .before .cell .ensures, ← c .before .text-at .en
 
 pub order-at-spec : {M : Type 1} → statement M
 order-at-spec =
-    tie.close (tie.spec mul-cell cell-requires text-at-requires compare-requires returns)
+    tie.close (tie.spec cell-requires text-at-requires compare-requires returns)

@@ -22,6 +22,9 @@ sub-mid c = omega arith
 add-mid : tie.Need-add-mid Inv-loop μ-loop
 add-mid c = omega arith
 
+mul-order-at : tie.Need-mul-order-at Inv-loop μ-loop
+mul-order-at c = search needs
+
 order-at-requires : tie.Need-order-at-requires Inv-loop μ-loop
 order-at-requires c κs = search needs
 
@@ -64,6 +67,7 @@ rank-spec =
     loop-holds
     sub-mid
     add-mid
+    mul-order-at
     order-at-requires
     enum-told
     add-lo

@@ -80,7 +80,7 @@ same-length-2 : tie.Need-same-length-2
 same-length-2 c = search needs
 
 returns-2 : tie.Need-returns-2
-returns-2 c = ((sym (c .before .before .before .has .ensures) ∙ c .before .before .if1 .left, refl, c .before .with .ensures, c .past-line .ensures, refl), kept-beyond (c .before .before .before .before .before .before .args .n) (c .before .before .before .before .before .before .args .key) (c .before .before .before .before .before .before .args .a) (c .before .before .before .before .before .before .args .b) (c .before .before .before .before .before .before .args .f) (c .before .before .before .before .before .before .args .ws .now) (omega arith) (c .before .before .before .before .before .before .pre .6))
+returns-2 c = ((sym (c .before .before .before .has .ensures) ∙ c .before .before .if1 .left, refl, refl, c .before .with .ensures, c .past-line .ensures, refl), kept-beyond (c .before .before .before .before .before .before .args .n) (c .before .before .before .before .before .before .args .key) (c .before .before .before .before .before .before .args .a) (c .before .before .before .before .before .before .args .b) (c .before .before .before .before .before .before .args .f) (c .before .before .before .before .before .before .args .ws .now) (omega arith) (c .before .before .before .before .before .before .pre .6))
 
 pub keep-field-spec : {M : Type 1} → statement M
 keep-field-spec =

@@ -56,7 +56,7 @@ same-length : tie.Need-same-length
 same-length c = search needs
 
 returns : tie.Need-returns
-returns c = (steps (c .before .before .before .before .before .before .before .before .before .args .n) (c .before .before .before .before .before .before .before .before .before .args .count) (c .before .before .before .before .before .line-end .result) (c .before .before .before .before .before .before .before .before .before .args .ws .now) (c .before .before .before .before .before .before .before .before .before .args .ws .now) (c .before .before .before .before .before .before .before .before .before .args .pool .now) (c .before .before .before .before .before .before .before .before .before .args .s) (c .before .before .before .before .before .line-end .ensures) (c .before .before .before .before .before .before .before .before .before .pre .2) (Step.More (record { variables = c .before .before .before .before .before .before .before .before .before .args .s .variables; seen = c .before .before .before .before .before .before .before .before .before .args .s .seen; next = c .past-line .result })) (takes-empty (c .before .before .before .before .before .before .before .before .before .args .n) (c .before .before .before .before .before .before .before .before .before .args .count) (c .before .before .before .before .before .line-end .result) (c .before .before .before .before .before .before .before .before .before .args .ws .now) (c .before .before .before .before .before .before .before .before .before .args .pool .now) (c .before .before .before .before .before .before .before .before .before .args .s) _ (c .before .before .before .before .before .before .before .before .before .pre .1) (c .before .before .before .before .before .before .before .before .before .pre .2) (c .before .before .before .before .before .line-end .ensures) ((rw (c .before .enum-told .given .1) at (c .before .before .before .line-start .ensures)) (c .before .before .before .before .before .before .before .before .before .args .pool .now)) (record { variables = c .before .before .before .before .before .before .before .before .before .args .s .variables; seen = c .before .before .before .before .before .before .before .before .before .args .s .seen; next = c .past-line .result }) refl refl (c .past-line .ensures)), refl)
+returns c = (steps (c .before .before .before .before .before .before .before .before .before .args .n) (c .before .before .before .before .before .before .before .before .before .args .count) (c .before .before .before .before .before .line-end .result) (c .before .before .before .before .before .before .before .before .before .args .ws .now) (c .before .before .before .before .before .before .before .before .before .args .ws .now) (c .before .before .before .before .before .before .before .before .before .args .pool .now) (c .before .before .before .before .before .before .before .before .before .args .s) (c .before .before .before .before .before .line-end .ensures) (c .before .before .before .before .before .before .before .before .before .pre .2) (Step.More (record { variables = c .before .before .before .before .before .before .before .before .before .args .s .variables; first = c .before .before .before .before .before .before .before .before .before .args .s .first; seen = c .before .before .before .before .before .before .before .before .before .args .s .seen; next = c .past-line .result })) (takes-empty (c .before .before .before .before .before .before .before .before .before .args .n) (c .before .before .before .before .before .before .before .before .before .args .count) (c .before .before .before .before .before .line-end .result) (c .before .before .before .before .before .before .before .before .before .args .ws .now) (c .before .before .before .before .before .before .before .before .before .args .pool .now) (c .before .before .before .before .before .before .before .before .before .args .s) _ (c .before .before .before .before .before .before .before .before .before .pre .1) (c .before .before .before .before .before .before .before .before .before .pre .2) (c .before .before .before .before .before .line-end .ensures) ((rw (c .before .enum-told .given .1) at (c .before .before .before .line-start .ensures)) (c .before .before .before .before .before .before .before .before .before .args .pool .now)) (record { variables = c .before .before .before .before .before .before .before .before .before .args .s .variables; first = c .before .before .before .before .before .before .before .before .before .args .s .first; seen = c .before .before .before .before .before .before .before .before .before .args .s .seen; next = c .past-line .result }) refl refl refl (c .past-line .ensures)), refl)
 
 same-length-2 : tie.Need-same-length-2
 same-length-2 c = search needs

@@ -1,21 +1,15 @@
--- `names::shift` meets its contract. Assumes nothing.
+-- `names::shift_up` meets its contract. Assumes nothing.
 use borrow.Author.Needs.{needs}
-use Prim.Native.Nat.{_+_, _*_, _-_, _≤_}
+use Prim.Native.Nat.{_+_, _-_, _≤_}
 use mathlib.Core.Path.{_≡_}
 use lib.ListN.{length}
 use native.Mathlib.Omega.{arith}
 use Rattle.names.proofs.Storing.{raised}
-use Rattle.names.proofs.shift.Statement.{statement}
-use Rattle.names.proofs.shift.Tie as tie
-
-mul-at : tie.Need-mul-at
-mul-at c = search needs
+use Rattle.names.proofs.shift_up.Statement.{statement}
+use Rattle.names.proofs.shift_up.Tie as tie
 
 add-at : tie.Need-add-at
 add-at c = search needs
-
-mul-end : tie.Need-mul-end
-mul-end c = search needs
 
 add-end : tie.Need-add-end
 add-end c = search needs
@@ -53,21 +47,18 @@ same-length c = search needs
 returns : tie.Need-returns
 returns c =
     let s = c .before .before .before .before .before in
-    let n = 4 * s .args .n in
-    let at = n + s .args .p in
-    let size = n + s .args .v + 1 - at in
+    let at = s .args .first + s .args .p in
+    let size = s .args .first + s .args .v + 1 - at in
     let m = s .args .v - s .args .p in
     let e : size ≡ m + 1 = omega arith in
     let h : at + size ≤ length (s .args .ws .now) = omega arith in
     raised (s .args .ws .now) (c .before .before .raise .last .0) at size m (s .args .key) e h (c .before .before .raise .ensures)
 
-pub shift-spec : {M : Type 1} → statement M
-shift-spec =
+pub shift-up-spec : {M : Type 1} → statement M
+shift-up-spec =
     tie.close
     (tie.spec
-    mul-at
     add-at
-    mul-end
     add-end
     add-end-2
     mul-raise
