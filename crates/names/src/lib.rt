@@ -12,7 +12,7 @@ ghost use Rattle.scan.specs.Orders.{orderOf};
 ghost use Rattle.scan.specs.Stores.{puts};
 ghost use Rattle.tokens.specs.Entries.{decode, tokenAt, poolText};
 ghost use Rattle.workspace.specs.Map.{keysFrom, variablesFrom, variablesIn};
-ghost use Rattle.names.specs.Store.{placeFor, isBefore, isSame, isAssigned, Searchable, Insertable, firstAfter, withKey, Inserts, rankFor, ranks, Lookable};
+ghost use Rattle.names.specs.Store.{placeFor, isBefore, isSame, isAssigned, placeOf, Searchable, Insertable, firstAfter, withKey, Inserts, rankFor, ranks, Lookable};
 use scan::column::cell;
 use scan::order::Order;
 use scan::order::compare;
@@ -198,7 +198,7 @@ fn shift_down(ws: &mut [u32], first: usize, p: usize, key: usize)
     ws[start + p] = key as u32;
 }
 
-// Key goes to place p of the v sorted ones, which begin at `first`: where they begin now. The fewer of those before and after it move.
+// Key goes to place p of the v sorted ones, which begin at `first`; the answer is where they begin now. The fewer of those before and after it move.
 fn put_key(ws: &mut [u32], first: usize, v: usize, p: usize, key: usize) -> usize
     requires { ⌜ (0 < first) × (first + v < length (now ws)) × (p ≤ v) × (key ≤ 65535) ⌝ }
     ensures { λ r. ⌜ (r ≡ firstAfter first v p) × (now (ws .exit) ≡ puts (now (ws .entry)) (firstAfter first v p) (withKey p key (keysFrom first v (now (ws .entry))))) ⌝ }
@@ -233,7 +233,7 @@ fn is_at(
     p: usize,
 ) -> bool
     requires { ⌜ Searchable first n count v (now ws) (now pool) × (isA Text (tokenAt (decode count (now ws) (now pool)) j) ≡ true)
-        × (p ≡ placeFor (tokenAt (decode count (now ws) (now pool)) j .text) (variablesFrom first n count v (now ws) (now pool))) ⌝ }
+        × (p ≡ placeOf first n count v j (now ws) (now pool)) ⌝ }
     ensures { λ r. ⌜ r ≡ isAssigned first n count v j (now (ws .entry)) (now (pool .entry)) ⌝ }
 {
     if p < v {

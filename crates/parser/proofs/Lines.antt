@@ -201,21 +201,21 @@ module _ (n count : ℕ) (ws₀ ws ws′ pool : List ℕ) (s : Progress) (P : Pa
 
 -- the keys go to 4n
 module _ (first n count v : ℕ) (ws pool : List ℕ) (R : Ready first n count v count ws pool) where
-  ws′ : List ℕ
-  ws′ = puts ws (4 * n) (keysFrom first v ws)
+  settled : List ℕ
+  settled = puts ws (4 * n) (keysFrom first v ws)
 
   length-keys : length (keysFrom first v ws) ≡ v
   length-keys = length-part ws first v (omega (arith, R .low, R .high, R .few, R .tokens, R .room))
 
-  other : (k : ℕ) → (4 * n ≤ k → k < 5 * n → ⊥) → getD ws′ k 0 ≡ getD ws k 0
-  unfolding ws′
+  other : (k : ℕ) → (4 * n ≤ k → k < 5 * n → ⊥) → getD settled k 0 ≡ getD ws k 0
+  unfolding settled
   other k h = elim (decLt k (4 * n)) [
     | yes l ↦ getD-puts-below ws (4 * n) (keysFrom first v ws) k 0 l
     | no l ↦ getD-puts-above ws (4 * n) (keysFrom first v ws) k 0
         (elim (decLt k (5 * n)) [ yes m ↦ absurd (h (omega arith) m) | no m ↦ omega (arith, length-keys, R .few, R .tokens) ])
   ]
 
-  frame : Frame n count count ws ws′
+  frame : Frame n count count ws settled
   frame =
       let t = R .tokens in
       record {
@@ -225,39 +225,39 @@ module _ (first n count v : ℕ) (ws pool : List ℕ) (R : Ready first n count v
         after = λ k h l. other k (λ a b. omega arith);
       }
 
-  keys-are : keysFrom (4 * n) v ws′ ≡ keysFrom first v ws
-  unfolding ws′
+  keys-are : keysFrom (4 * n) v settled ≡ keysFrom first v ws
+  unfolding settled
   keys-are =
       let l = length-keys in
       ap (take v) (drop-stored ws (4 * n) (keysFrom first v ws) (omega (arith, R .few, R .tokens, R .room))) ∙ take-at (keysFrom first v ws) (drop (4 * n + length (keysFrom first v ws)) ws) v l
 
-  entry-is : (f : ℕ) → getD ws′ (12 * n + f) 0 ≡ getD ws (12 * n + f) 0
+  entry-is : (f : ℕ) → getD settled (12 * n + f) 0 ≡ getD ws (12 * n + f) 0
   entry-is f = other (12 * n + f) (λ a b. omega arith)
 
-  variables-are : variablesFrom (4 * n) n count v ws′ pool ≡ variablesFrom first n count v ws pool
+  variables-are : variablesFrom (4 * n) n count v settled pool ≡ variablesFrom first n count v ws pool
   unfolding variablesFrom
-  variables-are = ap (map _) keys-are ∙ variables-same n count count count ws ws′ frame (R .tokens) (R .on) pool (keysFrom first v ws) (R .within .variables)
+  variables-are = ap (map _) keys-are ∙ variables-same n count count count ws settled frame (R .tokens) (R .on) pool (keysFrom first v ws) (R .within .variables)
 
-  settled-within : Within (4 * n) n v count ws′
+  settled-within : Within (4 * n) n v count settled
   settled-within =
       record {
-        variables = rw keys-are (all-map _ _ (variable-within n count count count ws ws′ frame (R .tokens) (R .on) count (omega arith)) (keysFrom first v ws) (R .within .variables));
-        fields = λ f x y. rw (entry-is f) (entry-within n count count count ws ws′ frame (R .tokens) (R .on) f count (getD ws (12 * n + f) 0) (omega arith) (R .within .fields f x y));
+        variables = rw keys-are (all-map _ _ (variable-within n count count count ws settled frame (R .tokens) (R .on) count (omega arith)) (keysFrom first v ws) (R .within .variables));
+        fields = λ f x y. rw (entry-is f) (entry-within n count count count ws settled frame (R .tokens) (R .on) f count (getD ws (12 * n + f) 0) (omega arith) (R .within .fields f x y));
       }
 
-  settled-held : (seen : ℕ) (file : File) → Held first n count v seen ws pool file → FileHeld n count v ws′ pool file
-  unfolding fieldIn ws′
+  settled-held : (seen : ℕ) (file : File) → Held first n count v seen ws pool file → FileHeld n count v settled pool file
+  unfolding fieldIn settled
   settled-held seen file H =
       record {
         holds = record {
           variables = variables-are ∙ H .holds .variables;
           fields = λ f x y.
-              ap (fieldOfEntry (decode count ws′ pool) (startsOf n ws′) (endsOf n ws′) f) (entry-is f)
-              ∙ field-same n count count count ws ws′ frame (R .tokens) (R .on) pool f (getD ws (12 * n + f) 0) (R .within .fields f x y) ∙ H .holds .fields f x y;
+              ap (fieldOfEntry (decode count settled pool) (startsOf n settled) (endsOf n settled) f) (entry-is f)
+              ∙ field-same n count count count ws settled frame (R .tokens) (R .on) pool f (getD ws (12 * n + f) 0) (R .within .fields f x y) ∙ H .holds .fields f x y;
         };
         room = record { small = R .small; room = omega (arith, R .room, length-puts ws (4 * n) (keysFrom first v ws)); tokens = R .tokens; few = R .few };
         within = settled-within;
-        texts = rw keys-are (texts-same n count count count ws ws′ frame (R .tokens) (R .on) pool (keysFrom first v ws) (R .within .variables) (R .texts));
+        texts = rw keys-are (texts-same n count count count ws settled frame (R .tokens) (R .on) pool (keysFrom first v ws) (R .within .variables) (R .texts));
         sorted = rw variables-are (R .sorted);
       }
 
@@ -269,7 +269,7 @@ module _ (n count : ℕ) (ws₀ ws pool : List ℕ) (s : Progress) (P : Parsing 
   settle-asks = let R = read in (omega (arith, R .low, R .few, R .tokens), omega (arith, R .high, R .few, R .tokens, R .room))
 
   pub parse-done : (ws′ : List ℕ) → ws′ ≡ puts ws (4 * n) (keysFrom (s .first) (s .variables) ws) → Parses n count ws₀ ws′ pool (Parsed.Lines (s .variables))
-  unfolding ws′
+  unfolding settled
   parse-done w e = (
     P .left .0,
     P .left .1 ∙ ap (λ (l : List Token). readLines (P .left .0) (lines l)) (token-end count ws pool (s .next) h) ∙ lines-none (P .left .0),
