@@ -97,6 +97,17 @@ module _ (text : List ℕ) (j r : ℕ) (e : r ≡ classAt (drop j text)) where
     unfolding classNumber comment
     line-stop h q i = let z = run-off (λ b. not (isLineEnd b)) text j h (rw (yes-at Class.lineEnd h q)) in omega arith
 
+-- text from place j on, by the class r of the byte there; x is where it ends
+module _ (text : List ℕ) (j r x : ℕ) (h : j < length text) (e : r ≡ classNumber (class (getD text j 0))) where
+  at-place : r ≡ classAt (drop j text)
+  at-place = e ∙ sym (class-in text j h)
+
+  pub text-more : r < 3 → x ≡ j + run isPlain (drop j text) → x ≡ j + 1 + run isPlain (drop (j + 1) text)
+  text-more m q = below-more text j r at-place x 3 (omega arith) m q
+
+  pub text-stop : 3 ≤ r → x ≡ j + run isPlain (drop j text) → j ≡ x
+  text-stop m q = below-stop text j r at-place x 3 m q
+
 pub line-end : (text : List ℕ) (j x : ℕ) → length text ≤ j → x ≡ j + comment (drop j text) → j ≡ x
 unfolding comment
 line-end text j x h i = let z = run-end (λ b. not (isLineEnd b)) text j h in omega arith
@@ -373,11 +384,13 @@ module _ (text : List ℕ) (i c : ℕ) (here : i < length text) (e : c ≡ class
 
 -- a run of bytes that are text by themselves, or else one lexeme
 module _ (text : List ℕ) (i : ℕ) where
-  pub reads-run : (end : ℕ) → i < length text → end ≡ i + run isPlain (drop i text) → i < end → Reads text i 1 i (end - i) end
-  reads-run end here d h =
+  pub reads-run : (r end : ℕ) → i < length text → r ≡ classNumber (class (getD text i 0)) → r < 3 → end ≡ i + 1 + run isPlain (drop (i + 1) text) → Reads text i 1 i (end - i) end
+  unfolding isBelow
+  reads-run r end here e l d =
+      let z = run-on isPlain text i here (lt-ltb (classNumber (class (getD text i 0))) 3 (omega arith)) in
       record {
         is-piece = inl (record { is-text = refl; is-from = refl; is-len = omega arith }, omega arith);
-        on = h;
+        on = omega arith;
         inside = omega (arith, run-le isPlain (drop i text), length-drop i text);
         after = omega arith;
         part = omega arith;

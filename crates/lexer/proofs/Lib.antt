@@ -1,3 +1,4 @@
+pub mod Marks
 pub mod Lexemes
 pub mod Lefts
 pub mod Fates

@@ -1,3 +1,4 @@
+pub mod Marks
 pub mod Lexes
 pub mod Pieces
 pub mod Inner

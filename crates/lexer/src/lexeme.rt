@@ -5,10 +5,14 @@ ghost use lib.ListN.{length, drop, getD};
 ghost use Rattle.rules.specs.Bytes.{run};
 ghost use Rattle.rules.specs.Lexing.{isIdentifier, comment, second, afterBackslash, afterBrace, afterDollar};
 ghost use Rattle.scan.specs.Classes.{ClassTable};
-ghost use Rattle.lexer.specs.Pieces.{Shows, lexemeAt, isBelow, Reads};
+ghost use Rattle.lexer.specs.Pieces.{Shows, lexemeAt, isBelow, isPlain, Reads};
+use crate::blocks::Block;
+use crate::blocks::line_blocks_end;
+use crate::blocks::text_blocks_end;
 use scan::class::ByteClass;
 use scan::class::CLASS;
 use scan::class::class_by;
+use scan::class::class_in;
 use tokens::TokenKind;
 
 // A piece of the text: its kind, its own text, which is the `len` bytes from `from` on, and where the next one starts.
@@ -55,7 +59,7 @@ pub fn comment_end(table: &[u8; 256], text: &[u8], i: usize) -> usize
     requires { ⌜ ClassTable (now table) × (i ≤ length (now text)) ⌝ }
     ensures { λ r. ⌜ r ≡ i + comment (drop i (now (text .entry))) ⌝ }
 {
-    let mut j = i;
+    let mut j = line_blocks_end(text, i);
     while j < text.len() {
         if class_by(table, text, j) == ByteClass::LINE_END {
             return j;
@@ -170,13 +174,41 @@ pub fn classes_end(table: &[u8; 256], text: &[u8], i: usize, bound: u8) -> usize
     j
 }
 
+// Past the bytes that are text by themselves: by blocks, and byte by byte in the last one.
+fn long_text_end(table: &[u8; 256], text: &[u8], i: usize) -> usize
+    requires { ⌜ ClassTable (now table) × (i ≤ length (now text)) ⌝ }
+    ensures { λ r. ⌜ r ≡ i + run isPlain (drop i (now (text .entry))) ⌝ }
+{
+    let j = text_blocks_end(text, i);
+    classes_end(table, text, j, ByteClass::BLANK)
+}
+
+// Past the bytes that are text by themselves.
+fn text_end(table: &[u8; 256], text: &[u8], i: usize) -> usize
+    requires { ⌜ ClassTable (now table) × (i ≤ length (now text)) ⌝ }
+    ensures { λ r. ⌜ r ≡ i + run isPlain (drop i (now (text .entry))) ⌝ }
+{
+    if text.len() - i < Block::NEAR {
+        return classes_end(table, text, i, ByteClass::BLANK);
+    }
+    let stop = i + Block::NEAR;
+    let mut j = i;
+    while j < stop {
+        if ByteClass::BLANK <= class_in(table, text[j]) {
+            return j;
+        }
+        j += 1;
+    }
+    long_text_end(table, text, j)
+}
+
 // All the bytes from place i on that are text by themselves, or else one lexeme.
 pub fn piece_at(table: &[u8; 256], text: &[u8], i: usize) -> Piece
     requires { ⌜ ClassTable (now table) × (i < length (now text)) ⌝ }
     ensures { λ r. ⌜ Reads (now (text .entry)) i (r .kind) (r .from) (r .len) (r .next) ⌝ }
 {
-    let end = classes_end(table, text, i, ByteClass::BLANK);
-    if i < end {
+    if class_in(table, text[i]) < ByteClass::BLANK {
+        let end = text_end(table, text, i + 1);
         return Piece::new(TokenKind::TEXT, i, end - i, end);
     }
     lexeme_at(table, text, i)

@@ -1,4 +1,5 @@
 // From bytes to tokens (document 01, "Lexing"; upstream lexer.rs): a pass that looks for the first refusal, and a pass that fills workspace and pool.
+pub mod blocks;
 pub mod lexeme;
 
 ghost use mathlib.Core.Path.{_≡_};

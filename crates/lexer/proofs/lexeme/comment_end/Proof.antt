@@ -3,7 +3,7 @@ use Rattle.rules.specs.Lexing.{comment}
 use borrow.Author.Needs.{needs}
 use native.Mathlib.Omega.{arith}
 use lib.ListN.{length, drop}
-use mathlib.Core.Path.{_≡_, refl}
+use mathlib.Core.Path.{_≡_}
 use Prim.Native.Nat.{_+_, _-_, _≤_}
 use Rattle.lexer.proofs.Lexemes.{line-more, line-stop, line-end}
 use Rattle.lexer.proofs.lexeme.comment_end.Statement.{statement}
@@ -16,7 +16,11 @@ abbrev μ-loop : tie.MeasureT-loop
 μ-loop table text i j₀ j = length text - j
 
 loop-holds : tie.Need-loop-holds Inv-loop μ-loop
-loop-holds c = (search needs, refl)
+unfolding comment
+loop-holds c = search needs
+
+line-blocks-end-requires : tie.Need-line-blocks-end-requires Inv-loop μ-loop
+line-blocks-end-requires c κs = search needs
 
 class-by-requires : tie.Need-class-by-requires Inv-loop μ-loop
 class-by-requires c κs = search needs
@@ -42,6 +46,7 @@ comment-end-spec =
     (tie.spec
     Inv-loop
     μ-loop
+    line-blocks-end-requires
     loop-holds
     class-by-requires
     returns

@@ -4,8 +4,17 @@ use borrow.Author.Needs.{needs}
 use Rattle.lexer.proofs.lexeme.piece_at.Statement.{statement}
 use Rattle.lexer.proofs.lexeme.piece_at.Tie as tie
 
-classes-end-requires : tie.Need-classes-end-requires
-classes-end-requires c κs = search needs
+shared-slice-read-class-in : tie.Need-shared-slice-read-class-in
+shared-slice-read-class-in c = search needs
+
+class-in-requires : tie.Need-class-in-requires
+class-in-requires c κs = search needs
+
+add-text-end : tie.Need-add-text-end
+add-text-end c = search needs
+
+text-end-requires : tie.Need-text-end-requires
+text-end-requires c κs = search needs
 
 sub-new : tie.Need-sub-new
 sub-new c = search needs
@@ -26,7 +35,10 @@ pub piece-at-spec : {M : Type 1} → statement M
 piece-at-spec =
     tie.close
     (tie.spec
-    classes-end-requires
+    shared-slice-read-class-in
+    class-in-requires
+    add-text-end
+    text-end-requires
     sub-new
     new-requires
     returns
