@@ -20,7 +20,16 @@ use Rattle.scan.specs.Orders.{orderOf}
 use Rattle.scan.proofs.Orders.{isLess, isEqual, told-before, told-same}
 use Rattle.tokens.specs.Entries.{decode, tokenAt, poolText}
 use Rattle.workspace.specs.Map.{keysFrom, startsOf, endsOf, variableAt, variablesFrom}
-use Rattle.names.specs.Store.{placeFor, isBefore, isSame, All, Texts, Searchable, isAssigned}
+use Rattle.names.specs.Store.{placeFor, All, Texts, Searchable, placeAmong}
+use Rattle.names.specs.declared.Place.{Place}
+use Rattle.names.specs.declared.Place.the-variants as Place
+
+-- the i-th name stands before the key; it is the key
+abbrev isBefore : List Assignment → List ℕ → ℕ → Bool
+isBefore vs key i = before (keyAt vs i .text) key
+
+abbrev isSame : List Assignment → List ℕ → ℕ → Bool
+isSame vs key i = same (keyAt vs i .text) key
 
 by-not-true : (b : Bool) → (b ≡ true → ⊥) → b ≡ false
 by-not-true true h = absurd (h refl)
@@ -94,13 +103,10 @@ same-swap′ : (a b : List ℕ) → Before a b → same b a ≡ false
 same-swap′ a b h = by-not-true (same b a) (λ e. before-irrefl a (rw (same-eq b a e) at h))
 
 -- a key before all of them is none of them
-none-after : (key : List ℕ) (vs : List Assignment) → After key vs → (rankOf key vs ≡ length vs) × (assigned key vs ≡ false)
-unfolding rankOf assigned
-none-after key [] x = (refl, refl)
-none-after key (v ∷ vs) x =
-    let e = same-swap key (v .key .text) (x .0) in
-    let ih = none-after key vs (x .1) in
-    (rw (e, rankOf) (ap suc (ih .0)), rw e (ih .1))
+none-after : (key : List ℕ) (vs : List Assignment) → After key vs → assigned key vs ≡ false
+unfolding assigned
+none-after key [] x = refl
+none-after key (v ∷ vs) x = rw (same-swap key (v .key .text) (x .0)) (none-after key vs (x .1))
 
 after-trans : {a b : List ℕ} (vs : List Assignment) → Before a b → After b vs → After a vs
 after-trans [] h x = tt
@@ -127,24 +133,21 @@ place-found key (v ∷ vs) s h e = go (before (v .key .text) key) refl (λ a b. 
 
 -- it isn't: it's nowhere
 pub place-none : (key : List ℕ) (vs : List Assignment) → Sorted vs → (placeFor key vs < length vs → same (keyAt vs (placeFor key vs) .text) key ≡ false)
-    → (length vs ≡ rankOf key vs) × (assigned key vs ≡ false)
-unfolding placeFor rankOf assigned keyAt
-place-none key [] s e = (refl, refl)
+    → assigned key vs ≡ false
+unfolding placeFor assigned keyAt
+place-none key [] s e = refl
 place-none key (v ∷ vs) s e = go (before (v .key .text) key) refl (λ b. place-none key vs (s .1) b)
   where
     go : (b : Bool) → before (v .key .text) key ≡ b
-        → ((placeFor key vs < length vs → same (keyAt vs (placeFor key vs) .text) key ≡ false) → (length vs ≡ rankOf key vs) × (assigned key vs ≡ false))
-        → (suc (length vs) ≡ rankOf key (v ∷ vs)) × (assigned key (v ∷ vs) ≡ false)
+        → ((placeFor key vs < length vs → same (keyAt vs (placeFor key vs) .text) key ≡ false) → assigned key vs ≡ false) → assigned key (v ∷ vs) ≡ false
     go true q ih =
         let d = same-swap′ (v .key .text) key (before-is (v .key .text) key q) in
-        let x = ih (λ a. (rw (q, placeFor) at e) (omega arith)) in
-        (rw (d, rankOf) (ap suc (x .0)), rw d (x .1))
+        rw d (ih (λ a. (rw (q, placeFor) at e) (omega arith)))
     go false q ih =
         let z : same (v .key .text) key ≡ false = (rw (q, placeFor) at e) (omega arith) in
         let k = before-total (v .key .text) key q z in
         let d = same-swap key (v .key .text) k in
-        let x = none-after key vs (after-trans vs k (s .0)) in
-        (rw (d, rankOf) (ap suc (sym (x .0))), rw d (x .1))
+        rw d (none-after key vs (after-trans vs k (s .0)))
 
 -- a name that is none of them goes to its rank
 pub place-insert : (v : Assignment) (vs : List Assignment) → assigned (v .key .text) vs ≡ false
@@ -168,6 +171,30 @@ place-insert v (w ∷ ws) e = go (before (v .key .text) (w .key .text)) refl (or
 pub record Searching (vs : List Assignment) (v : ℕ) (key : List ℕ) (lo hi : ℕ) : Type 0 where
   pub bracket : Bracket (isBefore vs key) v lo hi
   pub not-there : hi < v → isSame vs key hi ≡ false
+
+-- a name that is none of them has the rank past the last
+unassigned-rank : (key : List ℕ) (vs : List Assignment) → assigned key vs ≡ false → length vs ≡ rankOf key vs
+unfolding rankOf assigned
+unassigned-rank key [] e = refl
+unassigned-rank key (v ∷ vs) e = let x = or-false (same key (v .key .text)) (assigned key vs) e in rw (x .0, rankOf) (ap suc (unassigned-rank key vs (x .1)))
+
+-- what was found, by its case
+module _ (vs : List Assignment) (key : List ℕ) (r : Place) (e : r ≡ placeAmong vs key) where
+  pub taken : (i : ℕ) → r ≡ Place.Taken i → (i ≡ rankOf key vs) × (assigned key vs ≡ true)
+  unfolding placeAmong pick
+  taken i q = go (assigned key vs) refl
+    where
+      go : (t : Bool) → assigned key vs ≡ t → (i ≡ rankOf key vs) × (t ≡ true)
+      go true z = (let y : Place.Taken i ≡ Place.Taken (rankOf key vs) = sym q ∙ (rw (z, placeAmong) at e) in cc, refl)
+      go false z = (let y : Place.Taken i ≡ Place.Free (placeFor key vs) = sym q ∙ (rw (z, placeAmong) at e) in let x : _≡_ {A = ℕ} 0 1 = cc in absurd (omega arith))
+
+  pub free : (p : ℕ) → r ≡ Place.Free p → (p ≡ placeFor key vs) × (length vs ≡ rankOf key vs) × (assigned key vs ≡ false)
+  unfolding placeAmong pick
+  free p q = go (assigned key vs) refl
+    where
+      go : (t : Bool) → assigned key vs ≡ t → (p ≡ placeFor key vs) × (length vs ≡ rankOf key vs) × (t ≡ false)
+      go true z = (let y : Place.Free p ≡ Place.Taken (rankOf key vs) = sym q ∙ (rw (z, placeAmong) at e) in let x : _≡_ {A = ℕ} 0 1 = cc in absurd (omega arith))
+      go false z = (let y : Place.Free p ≡ Place.Free (placeFor key vs) = sym q ∙ (rw (z, placeAmong) at e) in cc, unassigned-rank key vs z, refl)
 
 -- what the search reads: the keys of the variables are the tokens of the column of keys
 key-map : (ts : List Token) (starts ends ks : List ℕ) (i : ℕ) → i < length ks → keyAt (map (variableAt ts starts ends) ks) i ≡ tokenAt ts (getD ks i 0)
@@ -218,30 +245,21 @@ module _ (first n count v : ℕ) (ws pool : List ℕ) (S : Searchable first n co
         let x = place-found key (variablesFrom first n count v ws pool) (S .sorted) (omega arith) (rw q at z) in
         (q ∙ x .0, x .1)
 
-    none : (p < v → isSame (variablesFrom first n count v ws pool) key p ≡ false) → (v ≡ rankOf key (variablesFrom first n count v ws pool)) × (assigned key (variablesFrom first n count v ws pool) ≡ false)
+    none : (p < v → isSame (variablesFrom first n count v ws pool) key p ≡ false) → assigned key (variablesFrom first n count v ws pool) ≡ false
     none h =
         let l = table-length in
-        let x = place-none key (variablesFrom first n count v ws pool) (S .sorted) (λ a. ap (isSame (variablesFrom first n count v ws pool) key) (sym q) ∙ h (omega arith)) in
-        (sym l ∙ x .0, x .1)
-
-    pub assigned-by : (b : Bool) → p < v → b ≡ isSame (variablesFrom first n count v ws pool) key p → b ≡ assigned key (variablesFrom first n count v ws pool)
-    assigned-by b h x = go b refl
-      where
-        go : (c : Bool) → b ≡ c → b ≡ assigned key (variablesFrom first n count v ws pool)
-        go true y = y ∙ sym (found h (sym x ∙ y) .1)
-        go false y = y ∙ sym (none (λ _. sym x ∙ y) .1)
-
-    pub assigned-past : v ≤ p → false ≡ assigned key (variablesFrom first n count v ws pool)
-    assigned-past h = sym (none (λ a. absurd (omega arith)) .1)
+        place-none key (variablesFrom first n count v ws pool) (S .sorted) (λ a. ap (isSame (variablesFrom first n count v ws pool) key) (sym q) ∙ h (omega arith))
 
   pub search-start : (key : List ℕ) → Searching (variablesFrom first n count v ws pool) v key 0 v
   search-start key = record { bracket = bracket-start (isBefore (variablesFrom first n count v ws pool) key) v; not-there = λ h. absurd (omega arith) }
 
   module _ (key : List ℕ) (lo hi : ℕ) (B : Searching (variablesFrom first n count v ws pool) v key lo hi) where
-    pub search-end : hi ≤ lo → v ≡ rankOf key (variablesFrom first n count v ws pool)
+    pub search-end : hi ≤ lo → Place.Free lo ≡ placeAmong (variablesFrom first n count v ws pool) key
+    unfolding placeAmong pick
     search-end h =
         let e : lo ≡ hi = omega (arith, B .bracket .lo-le) in
-        none key lo (bracket-end (variablesFrom first n count v ws pool) key v lo hi table-length h (B .bracket)) (λ l. ap (isSame (variablesFrom first n count v ws pool) key) e ∙ B .not-there (omega arith)) .0
+        let p = bracket-end (variablesFrom first n count v ws pool) key v lo hi table-length h (B .bracket) in
+        rw (none key lo p (λ l. ap (isSame (variablesFrom first n count v ws pool) key) e ∙ B .not-there (omega arith))) (ap Place.Free p)
 
     -- by how the name in the middle compares
     module _ (d : lo < hi) (o : Order) (e : o ≡ orderOf (poolText (tokenAt (decode count ws pool) (getD (keysFrom first v ws) (lo + (hi - lo) / 2) 0))) key) where
@@ -273,8 +291,8 @@ module _ (first n count v : ℕ) (ws pool : List ℕ) (S : Searchable first n co
             not-there = λ l. sym (reads-same m key in-table o Greater e q);
           }
 
-      pub search-found : o ≡ Equal → lo + (hi - lo) / 2 ≡ rankOf key (variablesFrom first n count v ws pool)
-      unfolding isLess isEqual
+      pub search-found : o ≡ Equal → Place.Taken (lo + (hi - lo) / 2) ≡ placeAmong (variablesFrom first n count v ws pool) key
+      unfolding isLess isEqual placeAmong pick
       search-found q =
           let vs = variablesFrom first n count v ws pool in
           let l = table-length in
@@ -282,4 +300,5 @@ module _ (first n count v : ℕ) (ws pool : List ℕ) (S : Searchable first n co
           let z : isSame vs key m ≡ true = sym (reads-same m key in-table o Equal e q) in
           let k : keyAt vs m .text ≡ key = same-eq (keyAt vs m .text) key z in
           let r : m ≡ placeFor key vs = bracket-place vs key m (omega (arith, in-table)) (λ i f. is-before (rw k at (pair vs (S .sorted) i m f (omega (arith, in-table))))) (λ i f g. b .above i f (omega arith)) in
-          found key m r in-table z .0
+          let x = found key m r in-table z in
+          rw (x .1) (ap Place.Taken (x .0))

@@ -22,7 +22,7 @@ use Rattle.tokens.proofs.TokenLaws.{decode-same}
 use Rattle.workspace.specs.Map.{keysFrom, startsOf, endsOf, variableAt, variablesFrom}
 use Rattle.names.specs.declared.Insertion.the-variants.{Inserted, Duplicate}
 use Rattle.names.specs.Store.{placeFor, All, Searchable, Insertable, Inserts, placeOf, withKey, firstAfter, stored, newOne, isAssigned}
-use Rattle.names.proofs.Places.{place-insert, place-le, table-length, text-pooled, assigned-by, assigned-past}
+use Rattle.names.proofs.Places.{place-insert, place-le, table-length, text-pooled}
 
 -- those from i on came from one below
 pub record Raising (part₀ part : List ℕ) (i : ℕ) : Type 0 where
@@ -305,30 +305,35 @@ module _ (first n count v key from end : ℕ) (ws pool : List ℕ) (I : Insertab
       ∙ ap (λ (x : Assignment). take p (variablesFrom first n count v ws pool) ++ x ∷ drop p (variablesFrom first n count v ws pool)) new
       ∙ sym (place-insert (newOne count key from end ws pool) (variablesFrom first n count v ws pool) a)
 
-  pub insert-dup : (b : Bool) → b ≡ isAssigned first n count v key ws pool → b ≡ true → Inserts first n count v key from end pool ws ws Duplicate
-  unfolding pick
-  insert-dup b e q =
-      let a : isAssigned first n count v key ws pool ≡ true = sym e ∙ q in
-      record { is-answer = rw a; is-ws = rw a; is-table = λ z. absurd (false-true z a) }
+  -- `text` is the key's, as it was looked for
+  module _ (text : List ℕ) (t : text ≡ poolText (tokenAt (decode count ws pool) key)) where
+    text-is : text ≡ tokenAt (decode count ws pool) key .text
+    text-is = t ∙ text-pooled (tokenAt (decode count ws pool) key) (I .text)
 
-  -- p is where the search for the key's text ended
-  module _ (p : ℕ) (text : List ℕ) (r : p ≡ placeFor text (variablesFrom first n count v ws pool)) (t : text ≡ poolText (tokenAt (decode count ws pool) key)) where
-    pub is-place : p ≡ placeOf first n count v key ws pool
-    is-place = rw (← text-pooled (tokenAt (decode count ws pool) key) (I .text), ← t) r
-
-    pub place-in : p ≤ v
-    place-in = let h = place-fits in omega (arith, is-place)
-
-    pub insert-new : (b : Bool) (w : List ℕ) (begin : ℕ) → b ≡ isAssigned first n count v key ws pool → b ≡ false
-        → (begin ≡ firstAfter first v p) × (w ≡ puts ws (firstAfter first v p) (withKey p key (keysFrom first v ws)))
-        → Inserts first n count v key from end pool ws (set (set w (5 * n + key) from) (6 * n + key) end) (Inserted begin)
+    pub insert-dup : assigned text (variablesFrom first n count v ws pool) ≡ true → Inserts first n count v key from end pool ws ws Duplicate
     unfolding pick
-    insert-new b w begin e q (f, s) =
-        let a : isAssigned first n count v key ws pool ≡ false = sym e ∙ q in
-        let i : set (set w (5 * n + key) from) (6 * n + key) end ≡ stored first n v (placeOf first n count v key ws pool) key from end ws =
-        ap (λ (l : List ℕ). set (set l (5 * n + key) from) (6 * n + key) end) s ∙ ap (λ (k : ℕ). stored first n v k key from end ws) is-place in
-        record {
-          is-answer = rw a (ap Inserted (f ∙ ap (firstAfter first v) is-place));
-          is-ws = rw a i;
-          is-table = λ z. ap (λ (l : List ℕ). variablesFrom (firstAfter first v (placeOf first n count v key ws pool)) n count (v + 1) l pool) i ∙ stored-table z;
-        }
+    insert-dup q =
+        let a : isAssigned first n count v key ws pool ≡ true = rw text-is at q in
+        record { is-answer = rw a; is-ws = rw a; is-table = λ z. absurd (false-true z a) }
+
+    -- so many stand before it
+    module _ (p : ℕ) (r : p ≡ placeFor text (variablesFrom first n count v ws pool)) where
+      is-place : p ≡ placeOf first n count v key ws pool
+      is-place = rw text-is at r
+
+      pub place-in : p ≤ v
+      place-in = let h = place-fits in omega (arith, is-place)
+
+      pub insert-new : (w : List ℕ) (begin : ℕ) → assigned text (variablesFrom first n count v ws pool) ≡ false
+          → (begin ≡ firstAfter first v p) × (w ≡ puts ws (firstAfter first v p) (withKey p key (keysFrom first v ws)))
+          → Inserts first n count v key from end pool ws (set (set w (5 * n + key) from) (6 * n + key) end) (Inserted begin)
+      unfolding pick
+      insert-new w begin q (f, s) =
+          let a : isAssigned first n count v key ws pool ≡ false = rw text-is at q in
+          let i : set (set w (5 * n + key) from) (6 * n + key) end ≡ stored first n v (placeOf first n count v key ws pool) key from end ws =
+          ap (λ (l : List ℕ). set (set l (5 * n + key) from) (6 * n + key) end) s ∙ ap (λ (k : ℕ). stored first n v k key from end ws) is-place in
+          record {
+            is-answer = rw a (ap Inserted (f ∙ ap (firstAfter first v) is-place));
+            is-ws = rw a i;
+            is-table = λ z. ap (λ (l : List ℕ). variablesFrom (firstAfter first v (placeOf first n count v key ws pool)) n count (v + 1) l pool) i ∙ stored-table z;
+          }

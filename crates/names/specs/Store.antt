@@ -5,28 +5,23 @@ use mathlib.Core.Bool.{Bool, true, false}
 use mathlib.Core.List.{List, [], _∷_, _++_}
 use lib.Dec.{ltb}
 use lib.ListN.{length, take, drop, set}
-use Rattle.rules.specs.Bytes.{pick, before, same}
+use Rattle.rules.specs.Bytes.{pick, before}
 use Rattle.rules.specs.Tokens.{Token, isA, Text, Variable}
 use Rattle.rules.specs.Lines.{Assignment, assigned, insert}
-use Rattle.rules.specs.Variables.{rankOf, keyAt}
+use Rattle.rules.specs.Variables.{rankOf}
 use Rattle.rules.proofs.TableLaws.{Sorted}
 use Rattle.scan.specs.Stores.{puts}
 use Rattle.tokens.specs.Entries.{decode, tokenAt}
 use Rattle.workspace.specs.Map.{keysFrom, partsBetween, variablesFrom}
 use Rattle.names.specs.declared.Insertion.{Insertion}
 use Rattle.names.specs.declared.Insertion.the-variants.{Inserted, Duplicate}
+use Rattle.names.specs.declared.Place.{Place}
+use Rattle.names.specs.declared.Place.the-variants as Place
 
 -- how many names, from the front on, stand before the key: where it is to be stored
 unfoldable pub placeFor : List ℕ → List Assignment → ℕ
 placeFor key [] = zero
 placeFor key (v ∷ vs) = elim (before (v .key .text) key) [ true ↦ suc (placeFor key vs) | false ↦ zero ]
-
--- the i-th name stands before the key; it is the key
-abbrev pub isBefore : List Assignment → List ℕ → ℕ → Bool
-isBefore vs key i = before (keyAt vs i .text) key
-
-abbrev pub isSame : List Assignment → List ℕ → ℕ → Bool
-isSame vs key i = same (keyAt vs i .text) key
 
 -- it holds of each
 abbrev pub All : (ℕ → Type 0) → List ℕ → Type 0
@@ -44,6 +39,10 @@ pub record Searchable (first n count v : ℕ) (ws pool : List ℕ) : Type 0 wher
   pub few : first + v ≤ 5 * n
   pub texts : Texts (decode count ws pool) (keysFrom first v ws)
   pub sorted : Sorted (variablesFrom first n count v ws pool)
+
+-- what a search for the key finds: its rank, where it is one of the names; else how many stand before it
+unfoldable pub placeAmong : List Assignment → List ℕ → Place
+placeAmong vs key = pick (assigned key vs) (Place.Taken (rankOf key vs)) (Place.Free (placeFor key vs))
 
 -- what storing the variable of key token `key` asks: it comes after the keys stored before it, and is a Text; there is room on both sides of them
 pub record Insertable (first n count v key from end : ℕ) (ws pool : List ℕ) : Type 0 where

@@ -2,17 +2,15 @@
 // The map of the workspace is in crate `workspace`: key tokens in byte order at 4n, where values start and end at 5n and 6n, ranks of references at 7n.
 // While lines are read the keys stand from a place `first` on, with room on both sides: a new one moves the fewer of those before and after it.
 ghost use mathlib.Core.Path.{_≡_};
-ghost use mathlib.Core.Bool.{true};
 ghost use mathlib.Core.List.{[], _∷_, _++_};
 ghost use Prim.Native.Nat.{_+_, _*_, _-_, _≤_, _<_};
 ghost use lib.ListN.{length, take, drop, getD};
-ghost use Rattle.rules.specs.Tokens.{isA, Text};
 ghost use Rattle.rules.specs.Variables.{rankOf};
 ghost use Rattle.scan.specs.Orders.{orderOf};
 ghost use Rattle.scan.specs.Stores.{puts};
 ghost use Rattle.tokens.specs.Entries.{decode, tokenAt, poolText};
 ghost use Rattle.workspace.specs.Map.{keysFrom, variablesFrom, variablesIn};
-ghost use Rattle.names.specs.Store.{placeFor, isBefore, isSame, isAssigned, placeOf, Searchable, Insertable, firstAfter, withKey, Inserts, rankFor, ranks, Lookable};
+ghost use Rattle.names.specs.Store.{Searchable, placeAmong, Insertable, firstAfter, withKey, Inserts, rankFor, ranks, Lookable};
 use scan::column::cell;
 use scan::order::Order;
 use scan::order::compare;
@@ -24,6 +22,14 @@ pub enum Insertion {
     // where the keys begin now
     Inserted(usize),
     Duplicate,
+}
+
+// Where a name is among those in byte order.
+pub enum Place {
+    // it is the one of this rank
+    Taken(usize),
+    // it is none of them; so many stand before it
+    Free(usize),
 }
 
 // How the name of the i-th variable compares with key.
@@ -43,52 +49,8 @@ fn order_at(
     compare(text_at(ws, pool, count, k), key)
 }
 
-// The name of the i-th variable stands before key.
-fn is_before(
-    ws: &[u32],
-    pool: &[u8],
-    n: usize,
-    count: usize,
-    first: usize,
-    v: usize,
-    i: usize,
-    key: &[u8],
-) -> bool
-    requires { ⌜ Searchable first n count v (now ws) (now pool) × (i < v) ⌝ }
-    ensures { λ r. ⌜ r ≡ isBefore (variablesFrom first n count v (now (ws .entry)) (now (pool .entry))) (now (key .entry)) i ⌝ }
-{
-    let o = order_at(ws, pool, count, first, v, i, key);
-    match o {
-        Order::Less => true,
-        Order::Equal => false,
-        Order::Greater => false,
-    }
-}
-
-// The name of the i-th variable is key.
-fn is_same(
-    ws: &[u32],
-    pool: &[u8],
-    n: usize,
-    count: usize,
-    first: usize,
-    v: usize,
-    i: usize,
-    key: &[u8],
-) -> bool
-    requires { ⌜ Searchable first n count v (now ws) (now pool) × (i < v) ⌝ }
-    ensures { λ r. ⌜ r ≡ isSame (variablesFrom first n count v (now (ws .entry)) (now (pool .entry))) (now (key .entry)) i ⌝ }
-{
-    let o = order_at(ws, pool, count, first, v, i, key);
-    match o {
-        Order::Less => false,
-        Order::Equal => true,
-        Order::Greater => false,
-    }
-}
-
-// How many of the v names stand before key.
-fn place_for(
+// Looks for the name key among the v names whose keys begin at `first`.
+fn find_place(
     ws: &[u32],
     pool: &[u8],
     n: usize,
@@ -96,21 +58,28 @@ fn place_for(
     first: usize,
     v: usize,
     key: &[u8],
-) -> usize
+) -> Place
     requires { ⌜ Searchable first n count v (now ws) (now pool) ⌝ }
-    ensures { λ r. ⌜ r ≡ placeFor (now (key .entry)) (variablesFrom first n count v (now (ws .entry)) (now (pool .entry))) ⌝ }
+    ensures { λ r. ⌜ r ≡ placeAmong (variablesFrom first n count v (now (ws .entry)) (now (pool .entry))) (now (key .entry)) ⌝ }
 {
     let mut lo = 0;
     let mut hi = v;
     while lo < hi {
         let mid = lo + (hi - lo) / 2;
-        if is_before(ws, pool, n, count, first, v, mid, key) {
-            lo = mid + 1;
-        } else {
-            hi = mid;
+        let o = order_at(ws, pool, count, first, v, mid, key);
+        match o {
+            Order::Less => {
+                lo = mid + 1;
+            }
+            Order::Equal => {
+                return Place::Taken(mid);
+            }
+            Order::Greater => {
+                hi = mid;
+            }
         }
     }
-    lo
+    Place::Free(lo)
 }
 
 // The rank of the variable of this name among the v; v where it is none of them. Document 01: "zero characters are allowed, and that name is never assigned".
@@ -118,24 +87,11 @@ pub fn rank(ws: &[u32], pool: &[u8], n: usize, count: usize, v: usize, key: &[u8
     requires { ⌜ Searchable (4 * n) n count v (now ws) (now pool) ⌝ }
     ensures { λ r. ⌜ r ≡ rankOf (now (key .entry)) (variablesIn n count v (now (ws .entry)) (now (pool .entry))) ⌝ }
 {
-    let mut lo = 0;
-    let mut hi = v;
-    while lo < hi {
-        let mid = lo + (hi - lo) / 2;
-        let o = order_at(ws, pool, count, 4 * n, v, mid, key);
-        match o {
-            Order::Less => {
-                lo = mid + 1;
-            }
-            Order::Equal => {
-                return mid;
-            }
-            Order::Greater => {
-                hi = mid;
-            }
-        }
+    let place = find_place(ws, pool, n, count, 4 * n, v, key);
+    match place {
+        Place::Taken(i) => i,
+        Place::Free(_) => v,
     }
-    v
 }
 
 // Each entry goes one up, over the next one. A loop of its own on a slice of its own: so the compiler makes one move of memory of it.
@@ -221,27 +177,6 @@ pub fn settle(ws: &mut [u32], n: usize, first: usize, v: usize)
     lower_by(&mut ws[start..end], first - start);
 }
 
-// Whether the name of token j is that of the variable at p, where it belongs.
-fn is_at(
-    ws: &[u32],
-    pool: &[u8],
-    n: usize,
-    count: usize,
-    first: usize,
-    v: usize,
-    j: usize,
-    p: usize,
-) -> bool
-    requires { ⌜ Searchable first n count v (now ws) (now pool) × (isA Text (tokenAt (decode count (now ws) (now pool)) j) ≡ true)
-        × (p ≡ placeOf first n count v j (now ws) (now pool)) ⌝ }
-    ensures { λ r. ⌜ r ≡ isAssigned first n count v j (now (ws .entry)) (now (pool .entry)) ⌝ }
-{
-    if p < v {
-        return is_same(ws, pool, n, count, first, v, p, text_at(ws, pool, count, j));
-    }
-    false
-}
-
 // Stores the variable whose key is token `key` and whose value are the tokens from `from` up to `end`, unless its name is assigned already. The v keys begin at `first`.
 pub fn insert(
     ws: &mut [u32],
@@ -257,14 +192,16 @@ pub fn insert(
     requires { ⌜ Insertable first n count v key from end (now ws) (now pool) ⌝ }
     ensures { λ r. ⌜ Inserts first n count v key from end (now (pool .entry)) (now (ws .entry)) (now (ws .exit)) r ⌝ }
 {
-    let p = place_for(ws, pool, n, count, first, v, text_at(ws, pool, count, key));
-    if is_at(ws, pool, n, count, first, v, key, p) {
-        return Insertion::Duplicate;
+    let place = find_place(ws, pool, n, count, first, v, text_at(ws, pool, count, key));
+    match place {
+        Place::Taken(_) => Insertion::Duplicate,
+        Place::Free(p) => {
+            let begin = put_key(ws, first, v, p, key);
+            ws[5 * n + key] = from as u32;
+            ws[6 * n + key] = end as u32;
+            Insertion::Inserted(begin)
+        }
     }
-    let begin = put_key(ws, first, v, p, key);
-    ws[5 * n + key] = from as u32;
-    ws[6 * n + key] = end as u32;
-    Insertion::Inserted(begin)
 }
 
 // The rank of the variable that token j refers to; 0 where it is no reference.

@@ -1,81 +1,32 @@
 -- `names::rank` meets its contract. Assumes nothing.
-use native.Mathlib.Omega.{arith}
+use mathlib.Core.Path.{sym, _∙_}
+use Rattle.names.proofs.Places.{taken, free, table-length}
 use borrow.Author.Needs.{needs}
-use Prim.Native.Nat.{_-_}
-use Rattle.workspace.specs.Map.{variablesIn}
-use Rattle.names.proofs.Places.{Searching, search-start, search-up, search-down, search-found, search-end}
 use Rattle.names.proofs.rank.Statement.{statement}
 use Rattle.names.proofs.rank.Tie as tie
 
-abbrev Inv-loop : tie.InvT-loop
-Inv-loop ws pool n count v key lo₀ hi₀ lo hi = Searching (variablesIn n count v ws pool) v key lo hi
+mul-find-place : tie.Need-mul-find-place
+mul-find-place c = search needs
 
-abbrev μ-loop : tie.MeasureT-loop
-μ-loop ws pool n count v key lo₀ hi₀ lo hi = hi - lo
+find-place-requires : tie.Need-find-place-requires
+find-place-requires c κs = search needs
 
-loop-holds : tie.Need-loop-holds Inv-loop μ-loop
-loop-holds c = search search-start
+enum-known-place : tie.Need-enum-known-place
+enum-known-place c = search needs
 
-sub-mid : tie.Need-sub-mid Inv-loop μ-loop
-sub-mid c = omega arith
-
-add-mid : tie.Need-add-mid Inv-loop μ-loop
-add-mid c = omega arith
-
-mul-order-at : tie.Need-mul-order-at Inv-loop μ-loop
-mul-order-at c = search needs
-
-order-at-requires : tie.Need-order-at-requires Inv-loop μ-loop
-order-at-requires c κs = search needs
-
-enum-told : tie.Need-enum-told Inv-loop μ-loop
+enum-told : tie.Need-enum-told
 enum-told c = search needs
 
-add-lo : tie.Need-add-lo Inv-loop μ-loop
-add-lo c = omega arith
+returns : tie.Need-returns
+returns c = taken _ _ _ (c .before .before .before .find-place .ensures) _ (c .before .place .given .1) .0
 
-loop-less : tie.Need-loop-less Inv-loop μ-loop
-loop-less c = omega arith
-
-loop-again : tie.Need-loop-again Inv-loop μ-loop
-loop-again c = search search-up
-
-enum-told-2 : tie.Need-enum-told-2 Inv-loop μ-loop
-enum-told-2 c = search needs
-
-returns : tie.Need-returns Inv-loop μ-loop
-returns c = search search-found
-
-enum-told-3 : tie.Need-enum-told-3 Inv-loop μ-loop
-enum-told-3 c = search needs
-
-loop-less-2 : tie.Need-loop-less-2 Inv-loop μ-loop
-loop-less-2 c = omega arith
-
-loop-again-2 : tie.Need-loop-again-2 Inv-loop μ-loop
-loop-again-2 c = search search-down
-
-returns-2 : tie.Need-returns-2 Inv-loop μ-loop
-returns-2 c = search search-end
+returns-2 : tie.Need-returns-2
+returns-2 c =
+    let begun = c .before .before .before .before .before .before in
+    let S = begun .args in
+    sym (table-length _ (S .n) (S .count) (S .v) (S .ws .now) (S .pool .now) (begun .pre)) ∙ free _ _ _ (c .before .before .find-place .ensures) _ (c .enum-told .given .1) .1
 
 pub rank-spec : {M : Type 1} → statement M
 rank-spec =
     tie.close
-    (tie.spec
-    Inv-loop
-    μ-loop
-    loop-holds
-    sub-mid
-    add-mid
-    mul-order-at
-    order-at-requires
-    enum-told
-    add-lo
-    loop-less
-    loop-again
-    enum-told-2
-    returns
-    enum-told-3
-    loop-less-2
-    loop-again-2
-    returns-2)
+    (tie.spec mul-find-place find-place-requires enum-known-place enum-told returns returns-2)
