@@ -6,7 +6,7 @@ use mathlib.Core.Bool.{Bool, true, false}
 use mathlib.Core.List.{List, [], _∷_, _++_, map}
 use mathlib.Core.Option.{none}
 use lib.ListN.{length, replicate}
-use Rattle.rules.specs.Bytes.{bytes, overwrite, pick}
+use Rattle.rules.specs.Bytes.{bytes, overwrite, pick, before}
 use Rattle.rules.specs.Tokens.{token, noName}
 use Rattle.rules.specs.Numbers.{MissingCloseVariable, InvalidVariableChar, InVariable, Lex, UnexpectedAtStart, UnexpectedAfterKey, EndedAfterKey, InvalidVariableName, DuplicateVariable, UnknownField, DuplicateField, UnterminatedQuote, UndefinedVariable, ContentTooLarge, Accepted, TooLong, WorkspaceShort, PoolShort, NotUtf8, Refused, OutputShort, NotRecords, DetailShort, number}
 use Rattle.rules.specs.Variables.{ref, lacks, passes}
@@ -340,6 +340,11 @@ pub numbers-say : map number (Accepted 7 ∷ TooLong ∷ WorkspaceShort ∷ Pool
     ≡ 0 ∷ 1 ∷ 2 ∷ 3 ∷ 4 ∷ 5 ∷ 6 ∷ 7 ∷ 8 ∷ 9 ∷ 10 ∷ 11 ∷ 12 ∷ 13 ∷ 14 ∷ 15 ∷ 16 ∷ 17 ∷ 18 ∷ 19 ∷ []
 unfolding called
 numbers-say = refl
+
+-- byte order is strict: no name is before itself
+pub not-before-itself : before (bytes "ab") (bytes "ab") ≡ false
+unfolding called
+not-before-itself = refl
 
 -- demand 3's 15 for a variable has the number 0 in its detail
 pub for-variable : ForVariable 15 (read (bytes "a=${a}") (dirty 136 6 0))

@@ -24,6 +24,7 @@ pub mod Promises
 pub mod LimitEdges
 pub mod Cases
 pub mod ListingCases
+pub mod PclistCases
 pub mod SourceCases
 pub mod TokenLaws
 pub mod NameLaws

@@ -1,14 +1,13 @@
--- Document 01, "Records and listing": cases of the listing, of the exported calls and of what the program prints, each from the document's words. Assumes nothing.
+-- Document 01, "Records and listing": cases of the listing and of the exported calls, each from the document's words. Assumes nothing.
 use Prim.Native.Nat.{ℕ}
 use Prim.Native.String.{String}
 use mathlib.Core.Path.{_≡_, refl}
 use mathlib.Core.List.{List, [], _∷_, _++_, map}
 use lib.ListN.{length, replicate}
 use Rattle.rules.specs.Bytes.{bytes, overwrite}
-use Rattle.rules.specs.Numbers.{EndedAfterKey, Accepted, TooLong, WorkspaceShort, PoolShort, NotUtf8, Refused, OutputShort, NotRecords, DetailShort, number, detail}
+use Rattle.rules.specs.Numbers.{number, detail}
 use Rattle.rules.specs.Listing.{listing, decimal}
 use Rattle.rules.specs.Export.{exportedIn, exported}
-use Rattle.rules.specs.Pclist.{pcLine, pclist}
 use Rattle.rules.proofs.Computed.{called, dirty}
 
 -- a listing: the records, and the size of the output, which is not clean; the number, the value of its detail, and what stands at the front of the output
@@ -66,6 +65,7 @@ listings =
     -- kinds that there are not, or that begin nothing
     ∷ breaks (short 0 [])
     ∷ breaks (short 11 [])
+    ∷ breaks (counts 11 0)
     ∷ breaks (short 12 [])
     ∷ breaks (0 ∷ 0 ∷ 0 ∷ 0 ∷ 1 ∷ 1 ∷ [])
     -- order and repeats
@@ -134,44 +134,3 @@ export-longer = refl
 pub export-entries : exported [] [] [] (replicate 48 0) .after .workspace ≡ replicate 16384 0
 unfolding called
 export-entries = refl
-
--- the program's first line: the need is 0 unless the number is 0 or 17
-pub first-lines : map pcLine (Accepted 7 ∷ TooLong ∷ WorkspaceShort ∷ PoolShort ∷ NotUtf8 ∷ Refused EndedAfterKey ∷ OutputShort 12 ∷ NotRecords ∷ DetailShort ∷ [])
-    ≡ bytes "pc 0 7\n" ∷ bytes "pc 1 0\n" ∷ bytes "pc 2 0\n" ∷ bytes "pc 3 0\n" ∷ bytes "pc 4 0\n" ∷ bytes "pc 9 0\n" ∷ bytes "pc 17 12\n" ∷ bytes "pc 18 0\n" ∷ bytes "pc 19 0\n" ∷ []
-unfolding called
-first-lines = refl
-
--- what the program prints
-pub prints-nothing-read : pclist [] ≡ bytes "pc 0 0\n"
-unfolding called
-prints-nothing-read = refl
-
-pub prints-refusal : pclist (bytes "a=${b}") ≡ bytes "pc 15 0\n"
-unfolding called
-prints-refusal = refl
-
-pub prints-longest : pclist (replicate 1360 35) ≡ bytes "pc 0 0\n"
-unfolding called
-prints-longest = refl
-
-pub prints-too-long : pclist (replicate 5000 35) ≡ bytes "pc 2 0\n"
-unfolding called
-prints-too-long = refl
-
--- `a` has 64 bytes and each later name twice those of the one before it: `j` has 32,768
-abbrev nine : List ℕ
-nine = bytes "a=aaaaaaaaaaaaaaaaaaaaaaaaaaaaaaaaaaaaaaaaaaaaaaaaaaaaaaaaaaaaaaaa\nb=${a}${a}\nc=${b}${b}\nd=${c}${c}\ne=${d}${d}\nf=${e}${e}\ng=${f}${f}\nh=${g}${g}\ni=${h}${h}\nj=${i}${i}\n"
-
--- one after another: 65,472 bytes
-abbrev all : List ℕ
-all = bytes "${j}${i}${h}${g}${f}${e}${d}${c}${b}${a}"
-
--- a value of 65,531 bytes: its record is one byte longer than the output
-pub prints-need : pclist (nine ++ bytes "Name: " ++ all ++ replicate 59 120) ≡ bytes "pc 17 65537\n"
-unfolding called
-prints-need = refl
-
--- a value of 65,528 bytes: its record fits, and its line is one byte longer than the listing's output
-pub prints-listing-need : pclist (nine ++ bytes "Name: " ++ all ++ replicate 56 120) ≡ bytes "pc 17 65537\n"
-unfolding called
-prints-listing-need = refl
