@@ -4,13 +4,14 @@ use Prim.Native.Nat.{ℕ, _+_, _-_}
 use mathlib.Core.Path.{_≡_, refl}
 use mathlib.Core.Bool.{Bool, true, false}
 use mathlib.Core.List.{List, [], _∷_, _++_, map}
+use mathlib.Core.Option.{none}
 use lib.ListN.{length, replicate}
-use Rattle.rules.specs.Bytes.{bytes, overwrite, pick}
-use Rattle.rules.specs.Reader.{room}
-use Rattle.rules.specs.Listing.{listing, decimal}
-use Rattle.rules.specs.Export.{exportedIn, exported}
-use Rattle.rules.specs.Numbers.{number, detail}
-use Rattle.rules.specs.Pclist.{pclist}
+use Rattle.rules.specs.Bytes.{bytes, overwrite, pick, before}
+use Rattle.rules.specs.Tokens.{token, noName}
+use Rattle.rules.specs.Numbers.{MissingCloseVariable, InvalidVariableChar, InVariable, Lex, UnexpectedAtStart, UnexpectedAfterKey, EndedAfterKey, InvalidVariableName, DuplicateVariable, UnknownField, DuplicateField, UnterminatedQuote, UndefinedVariable, ContentTooLarge, Accepted, TooLong, WorkspaceShort, PoolShort, NotUtf8, Refused, OutputShort, NotRecords, DetailShort, number}
+use Rattle.rules.specs.Variables.{ref, lacks, passes}
+use Rattle.rules.specs.Reader.{room, read}
+use Rattle.rules.specs.Demand3.{ForVariable}
 use Rattle.rules.proofs.Computed.{called, dirty}
 
 -- a call: the text and the sizes of the three buffers; the number with its detail, whether the workspace is zeroed, what stands at the front of pool and output
@@ -75,7 +76,8 @@ sizes =
 -- UTF-8: both sides of each row of the table
 abbrev pub utf8 : List Call
 utf8 =
-    refuses (0x7F ∷ []) (9 ∷ 0 ∷ 0 ∷ 0 ∷ 0 ∷ 0 ∷ []) (0x7F ∷ [])
+    refuses (0x00 ∷ []) (9 ∷ 0 ∷ 0 ∷ 0 ∷ 0 ∷ 0 ∷ []) (0x00 ∷ [])
+    ∷ refuses (0x7F ∷ []) (9 ∷ 0 ∷ 0 ∷ 0 ∷ 0 ∷ 0 ∷ []) (0x7F ∷ [])
     ∷ refuses (0xC2 ∷ 0x80 ∷ []) (9 ∷ 0 ∷ 0 ∷ 0 ∷ 0 ∷ 0 ∷ []) (0xC2 ∷ 0x80 ∷ [])
     ∷ refuses (0xDF ∷ 0xBF ∷ []) (9 ∷ 0 ∷ 0 ∷ 0 ∷ 0 ∷ 0 ∷ []) (0xDF ∷ 0xBF ∷ [])
     ∷ refuses (0xE0 ∷ 0xA0 ∷ 0x80 ∷ []) (9 ∷ 0 ∷ 0 ∷ 0 ∷ 0 ∷ 0 ∷ []) (0xE0 ∷ 0xA0 ∷ 0x80 ∷ [])
@@ -84,6 +86,7 @@ utf8 =
     ∷ refuses (0xED ∷ 0x80 ∷ 0x80 ∷ []) (9 ∷ 0 ∷ 0 ∷ 0 ∷ 0 ∷ 0 ∷ []) (0xED ∷ 0x80 ∷ 0x80 ∷ [])
     ∷ refuses (0xED ∷ 0x9F ∷ 0xBF ∷ []) (9 ∷ 0 ∷ 0 ∷ 0 ∷ 0 ∷ 0 ∷ []) (0xED ∷ 0x9F ∷ 0xBF ∷ [])
     ∷ refuses (0xEE ∷ 0x80 ∷ 0x80 ∷ []) (9 ∷ 0 ∷ 0 ∷ 0 ∷ 0 ∷ 0 ∷ []) (0xEE ∷ 0x80 ∷ 0x80 ∷ [])
+    ∷ refuses (0xEE ∷ 0xBF ∷ 0xBF ∷ []) (9 ∷ 0 ∷ 0 ∷ 0 ∷ 0 ∷ 0 ∷ []) (0xEE ∷ 0xBF ∷ 0xBF ∷ [])
     ∷ refuses (0xEF ∷ 0xBF ∷ 0xBF ∷ []) (9 ∷ 0 ∷ 0 ∷ 0 ∷ 0 ∷ 0 ∷ []) (0xEF ∷ 0xBF ∷ 0xBF ∷ [])
     ∷ refuses (0xF0 ∷ 0x90 ∷ 0x80 ∷ 0x80 ∷ []) (9 ∷ 0 ∷ 0 ∷ 0 ∷ 0 ∷ 0 ∷ []) (0xF0 ∷ 0x90 ∷ 0x80 ∷ 0x80 ∷ [])
     ∷ refuses (0xF1 ∷ 0x80 ∷ 0x80 ∷ 0x80 ∷ []) (9 ∷ 0 ∷ 0 ∷ 0 ∷ 0 ∷ 0 ∷ []) (0xF1 ∷ 0x80 ∷ 0x80 ∷ 0x80 ∷ [])
@@ -101,21 +104,39 @@ utf8 =
     ∷ notUtf8 (0xE0 ∷ 0x9F ∷ 0xBF ∷ [])
     ∷ notUtf8 (0xE0 ∷ 0xA0 ∷ [])
     ∷ notUtf8 (0xE0 ∷ 0xA0 ∷ 0x7F ∷ [])
+    ∷ notUtf8 (0xE0 ∷ 0xC0 ∷ 0x80 ∷ [])
+    ∷ notUtf8 (0xE0 ∷ 0xA0 ∷ 0xC0 ∷ [])
     ∷ notUtf8 (0xE1 ∷ 0x7F ∷ 0x80 ∷ [])
+    ∷ notUtf8 (0xE1 ∷ 0x80 ∷ 0x7F ∷ [])
     ∷ notUtf8 (0xEC ∷ 0xC0 ∷ 0x80 ∷ [])
     ∷ notUtf8 (0xEC ∷ 0x80 ∷ 0xC0 ∷ [])
     ∷ notUtf8 (0xED ∷ 0xA0 ∷ 0x80 ∷ [])
     ∷ notUtf8 (0xED ∷ 0x80 ∷ 0x7F ∷ [])
+    ∷ notUtf8 (0xED ∷ 0x7F ∷ 0x80 ∷ [])
+    ∷ notUtf8 (0xED ∷ 0x80 ∷ 0xC0 ∷ [])
     ∷ notUtf8 (0xEE ∷ 0x7F ∷ 0x80 ∷ [])
+    ∷ notUtf8 (0xEE ∷ 0x80 ∷ 0x7F ∷ [])
+    ∷ notUtf8 (0xEF ∷ 0xC0 ∷ 0x80 ∷ [])
     ∷ notUtf8 (0xEF ∷ 0xBF ∷ 0xC0 ∷ [])
     ∷ notUtf8 (0xF0 ∷ 0x8F ∷ 0xBF ∷ 0xBF ∷ [])
     ∷ notUtf8 (0xF0 ∷ 0x90 ∷ 0x80 ∷ [])
     ∷ notUtf8 (0xF0 ∷ 0x90 ∷ 0x7F ∷ 0x80 ∷ [])
     ∷ notUtf8 (0xF0 ∷ 0x90 ∷ 0x80 ∷ 0x7F ∷ [])
+    ∷ notUtf8 (0xF0 ∷ 0xC0 ∷ 0x80 ∷ 0x80 ∷ [])
+    ∷ notUtf8 (0xF0 ∷ 0x90 ∷ 0xC0 ∷ 0x80 ∷ [])
+    ∷ notUtf8 (0xF0 ∷ 0x90 ∷ 0x80 ∷ 0xC0 ∷ [])
     ∷ notUtf8 (0xF1 ∷ 0x7F ∷ 0x80 ∷ 0x80 ∷ [])
+    ∷ notUtf8 (0xF1 ∷ 0x80 ∷ 0x7F ∷ 0x80 ∷ [])
+    ∷ notUtf8 (0xF1 ∷ 0x80 ∷ 0x80 ∷ 0x7F ∷ [])
+    ∷ notUtf8 (0xF3 ∷ 0xC0 ∷ 0x80 ∷ 0x80 ∷ [])
+    ∷ notUtf8 (0xF3 ∷ 0x80 ∷ 0xC0 ∷ 0x80 ∷ [])
     ∷ notUtf8 (0xF3 ∷ 0x80 ∷ 0x80 ∷ 0xC0 ∷ [])
     ∷ notUtf8 (0xF4 ∷ 0x90 ∷ 0x80 ∷ 0x80 ∷ [])
     ∷ notUtf8 (0xF4 ∷ 0x80 ∷ 0xC0 ∷ 0x80 ∷ [])
+    ∷ notUtf8 (0xF4 ∷ 0x7F ∷ 0x80 ∷ 0x80 ∷ [])
+    ∷ notUtf8 (0xF4 ∷ 0x80 ∷ 0x7F ∷ 0x80 ∷ [])
+    ∷ notUtf8 (0xF4 ∷ 0x80 ∷ 0x80 ∷ 0x7F ∷ [])
+    ∷ notUtf8 (0xF4 ∷ 0x80 ∷ 0x80 ∷ 0xC0 ∷ [])
     ∷ notUtf8 (0xF5 ∷ 0x80 ∷ 0x80 ∷ 0x80 ∷ [])
     ∷ notUtf8 (0xFF ∷ [])
     ∷ []
@@ -197,6 +218,11 @@ undefined =
     ∷ refuses (bytes "Libs.private: a ${x} ${y}") (15 ∷ 10 ∷ 13 ∷ 1 ∷ 0 ∷ 0 ∷ []) (bytes "Libs.privateaxy")
     ∷ refuses (bytes "Libs: ${y}\nCflags: ${x}") (15 ∷ 8 ∷ 11 ∷ 1 ∷ 0 ∷ 0 ∷ []) (bytes "LibsyCflagsx")
     ∷ refuses (bytes "b=${d}\na=1${c}${d}\nName: ${e}") (15 ∷ 0 ∷ 4 ∷ 1 ∷ 2 ∷ 1 ∷ []) (bytes "bda1cdNamee")
+    -- the smallest name in byte order: one that begins another is before it, else the first byte that differs decides
+    ∷ refuses (bytes "ab=${x}\na=${y}") (15 ∷ 0 ∷ 4 ∷ 1 ∷ 3 ∷ 1 ∷ []) (bytes "abxay")
+    ∷ refuses (bytes "a=${y}\nab=${x}") (15 ∷ 0 ∷ 1 ∷ 1 ∷ 0 ∷ 1 ∷ []) (bytes "ayabx")
+    ∷ refuses (bytes "ab=${x}\naa=${y}") (15 ∷ 0 ∷ 5 ∷ 1 ∷ 3 ∷ 2 ∷ []) (bytes "abxaay")
+    ∷ refuses (bytes "ab=${x}\nba=${y}") (15 ∷ 0 ∷ 2 ∷ 1 ∷ 0 ∷ 2 ∷ []) (bytes "abxbay")
     ∷ []
 
 -- lexing
@@ -225,6 +251,7 @@ lexing =
     ∷ accepts (bytes "Name: a #c\n") (bytes "Namea") (1 ∷ 0 ∷ 0 ∷ 0 ∷ 1 ∷ 0 ∷ 97 ∷ [])
     ∷ accepts (bytes "Name: a #c") (bytes "Namea") (2 ∷ 0 ∷ 0 ∷ 0 ∷ 1 ∷ 0 ∷ 97 ∷ 32 ∷ [])
     ∷ accepts (bytes "Name: a{b}") (bytes "Namea{b}") (4 ∷ 0 ∷ 0 ∷ 0 ∷ 1 ∷ 0 ∷ 97 ∷ 123 ∷ 98 ∷ 125 ∷ [])
+    ∷ accepts (bytes "Name: a}b") (bytes "Namea}b") (3 ∷ 0 ∷ 0 ∷ 0 ∷ 1 ∷ 0 ∷ 97 ∷ 125 ∷ 98 ∷ [])
     ∷ accepts (0x4E ∷ 0x61 ∷ 0x6D ∷ 0x65 ∷ 0x3A ∷ 0x20 ∷ 0xC3 ∷ 0xA9 ∷ []) (0x4E ∷ 0x61 ∷ 0x6D ∷ 0x65 ∷ 0xC3 ∷ 0xA9 ∷ []) (0x02 ∷ 0x00 ∷ 0x00 ∷ 0x00 ∷ 0x01 ∷ 0x00 ∷ 0xC3 ∷ 0xA9 ∷ [])
     ∷ accepts (bytes "Name: a#b\rURL: c") (bytes "NameaURLc") (1 ∷ 0 ∷ 0 ∷ 0 ∷ 1 ∷ 0 ∷ 97 ∷ 1 ∷ 0 ∷ 0 ∷ 0 ∷ 3 ∷ 0 ∷ 99 ∷ [])
     ∷ accepts (bytes "Na\\\nme: x") (bytes "Namex") (1 ∷ 0 ∷ 0 ∷ 0 ∷ 1 ∷ 0 ∷ 120 ∷ [])
@@ -305,92 +332,27 @@ pub lists-say : map seenOf lists ≡ map says lists
 unfolding seenOf says three called
 lists-say = refl
 
--- the listing: number, value of the detail, output
-unfoldable pub listed : List ℕ → ℕ → List ℕ
+-- the table of numbers, 0 to 19 in their order: also for answers that no call in these tables gives
+pub numbers-say : map number (Accepted 7 ∷ TooLong ∷ WorkspaceShort ∷ PoolShort ∷ NotUtf8 ∷ map Refused (
+    Lex MissingCloseVariable 7 ∷ Lex (InvalidVariableChar 7) 7 ∷ UnexpectedAtStart noName ∷ UnexpectedAfterKey noName ∷ EndedAfterKey ∷ InvalidVariableName noName
+    ∷ DuplicateVariable noName ∷ UnknownField noName ∷ DuplicateField noName ∷ UnterminatedQuote noName ∷ UndefinedVariable noName (InVariable noName)
+    ∷ ContentTooLarge (InVariable noName) ∷ []
+    ) ++ (OutputShort 7 ∷ NotRecords ∷ DetailShort ∷ []))
+    ≡ 0 ∷ 1 ∷ 2 ∷ 3 ∷ 4 ∷ 5 ∷ 6 ∷ 7 ∷ 8 ∷ 9 ∷ 10 ∷ 11 ∷ 12 ∷ 13 ∷ 14 ∷ 15 ∷ 16 ∷ 17 ∷ 18 ∷ 19 ∷ []
 unfolding called
-listed records o = let l = listing records (replicate o 252) in number (l .answer) ∷ detail (l .answer) .value ∷ l .output
+numbers-say = refl
 
--- a string of two bytes and a list of one argument of none
-abbrev two : List ℕ
-two = 2 ∷ 0 ∷ 0 ∷ 0 ∷ 1 ∷ 0 ∷ 97 ∷ 98 ∷ 4 ∷ 0 ∷ 0 ∷ 0 ∷ 8 ∷ 0 ∷ 1 ∷ 0 ∷ 0 ∷ 0 ∷ 0 ∷ 0 ∷ 0 ∷ 0 ∷ 11 ∷ 0 ∷ []
-
-pub listing-fits : listed two 21 ≡ 0 ∷ 19 ∷ bytes "1 2 ab\n8 4 1\n11 0 \n" ++ 252 ∷ 252 ∷ []
-unfolding listed called
-listing-fits = refl
-
-pub listing-short : listed two 18 ≡ 17 ∷ 19 ∷ replicate 18 252
-unfolding listed called
-listing-short = refl
-
-pub listing-empty : listed [] 1 ≡ 0 ∷ 0 ∷ 252 ∷ []
-unfolding listed called
-listing-empty = refl
-
--- 18 goes before 17, and writes nothing
-pub listing-form : listed (1 ∷ two) 3 ≡ 18 ∷ 0 ∷ 252 ∷ 252 ∷ 252 ∷ []
-unfolding listed called
-listing-form = refl
-
--- a need above 32 bits has all its digits
-pub decimals : decimal 14294189320 ≡ bytes "14294189320"
+-- byte order is strict: no name is before itself
+pub not-before-itself : before (bytes "ab") (bytes "ab") ≡ false
 unfolding called
-decimals = refl
+not-before-itself = refl
 
--- the exported call: number, detail, and the rest of the outcome as the reader leaves it
-unfoldable pub exports : List ℕ → ℕ → List (List ℕ)
+-- demand 3's 15 for a variable has the number 0 in its detail
+pub for-variable : ForVariable 15 (read (bytes "a=${a}") (dirty 136 6 0))
 unfolding called
-exports text d =
-    let e = exportedIn text (dirty 200 20 40) (replicate d 253) in
-    (e .number ∷ []) ∷ e .detail ∷ e .after .pool ∷ e .after .output ∷ []
+for-variable = (refl, refl)
 
-pub export-19 : exports (bytes "Name: a") 47 ≡ (19 ∷ []) ∷ replicate 47 253 ∷ replicate 20 251 ∷ replicate 40 252 ∷ []
-unfolding exports called
-export-19 = refl
-
--- six numbers of eight bytes; bytes past the 48th are untouched
-pub export-15 : exports (bytes "a=${bc}") 50
-    ≡ (15 ∷ [])
-    ∷ (15 ∷ replicate 7 0 ++ replicate 8 0 ++ 1 ∷ replicate 7 0 ++ 2 ∷ replicate 7 0 ++ replicate 8 0 ++ 1 ∷ replicate 7 0 ++ 253 ∷ 253 ∷ [])
-    ∷ (bytes "abc" ++ replicate 17 251) ∷ replicate 40 252 ∷ []
-unfolding exports called
-export-15 = refl
-
--- the first export has its own 16,384 entries: 1,360 bytes pass and 1,361 give 2
-pub export-own : exported (replicate 1360 35) (replicate 1360 0) [] (replicate 48 0) .number ≡ 0
+-- with no pass more, the smallest name left is the one that lacks a value
+pub no-pass-more : passes 0 ((ref (token 2 (bytes "c") 1 2) 2 ∷ []) ∷ (ref (token 2 (bytes "d") 3 7) 2 ∷ []) ∷ []) (none ∷ none ∷ []) ≡ lacks 0 (token 2 (bytes "c") 1 2)
 unfolding called
-export-own = refl
-
-pub export-longer : exported (replicate 1361 35) (replicate 1361 0) [] (replicate 48 0) .number ≡ 2
-unfolding called
-export-longer = refl
-
--- what the program prints
-pub prints-nothing-read : pclist [] ≡ bytes "pc 0 0\n"
-unfolding called
-prints-nothing-read = refl
-
-pub prints-refusal : pclist (bytes "a=${b}") ≡ bytes "pc 15 0\n"
-unfolding called
-prints-refusal = refl
-
-pub prints-longest : pclist (replicate 1360 35) ≡ bytes "pc 0 0\n"
-unfolding called
-prints-longest = refl
-
-pub prints-too-long : pclist (replicate 5000 35) ≡ bytes "pc 2 0\n"
-unfolding called
-prints-too-long = refl
-
--- `a` has 64 bytes and each later name twice those of the one before it: `j` has 32,768
-abbrev nine : List ℕ
-nine = bytes "a=aaaaaaaaaaaaaaaaaaaaaaaaaaaaaaaaaaaaaaaaaaaaaaaaaaaaaaaaaaaaaaaa\nb=${a}${a}\nc=${b}${b}\nd=${c}${c}\ne=${d}${d}\nf=${e}${e}\ng=${f}${f}\nh=${g}${g}\ni=${h}${h}\nj=${i}${i}\n"
-
--- the need of records that do not fit 65,536 bytes
-pub prints-need : pclist (nine ++ bytes "Name: ${j}${j}") ≡ bytes "pc 17 65542\n"
-unfolding called
-prints-need = refl
-
--- a value of 65,530 bytes: its record fits, and its line does not
-pub prints-listing-need : pclist (nine ++ bytes "Name: ${j}${i}${h}${g}${f}${e}${d}${c}${b}${a}xxxxxxxxxxxxxxxxxxxxxxxxxxxxxxxxxxxxxxxxxxxxxxxxxxxxxxxxxx") ≡ bytes "pc 17 65539\n"
-unfolding called
-prints-listing-need = refl
+no-pass-more = refl

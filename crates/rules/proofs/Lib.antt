@@ -23,6 +23,8 @@ pub mod PTable
 pub mod Promises
 pub mod LimitEdges
 pub mod Cases
+pub mod ListingCases
+pub mod PclistCases
 pub mod SourceCases
 pub mod TokenLaws
 pub mod NameLaws

@@ -1,10 +1,11 @@
 -- Where tokens come from in the source, by cases: the place of the first source byte that gave a token something. Document 02's R-2 will show it. Assumes nothing.
+use Prim.Native.Nat.{ℕ}
 use mathlib.Core.Path.{_≡_, refl}
 use mathlib.Core.List.{[], _∷_, map}
 use Rattle.rules.specs.Bytes.{bytes}
 use Rattle.rules.specs.Tokens.{token}
 use Rattle.rules.specs.Numbers.{refused, ok, Lex, MissingCloseVariable, InvalidVariableChar, UnexpectedAtStart, UnexpectedAfterKey, DuplicateVariable, UnterminatedQuote, UndefinedVariable, InVariable, InField}
-use Rattle.rules.specs.Lexing.{tokens}
+use Rattle.rules.specs.Lexing.{class, chars, mark, lexeme, tokens}
 use Rattle.rules.specs.Reading.{reading}
 use Rattle.rules.proofs.Computed.{called}
 
@@ -39,6 +40,13 @@ pub marks : tokens (bytes "=:'\"\\\t\n") ≡ ok (
     )
 unfolding called
 marks = refl
+
+-- what a byte at the end of the text gives: nothing is taken beside it
+pub last-bytes : map (λ (b : ℕ). lexeme (class b) b []) (bytes "a{}$ \t\n#\\=:'\"")
+    ≡ chars (bytes "a") 0 ∷ chars (bytes "{") 0 ∷ chars (bytes "}") 0 ∷ chars (bytes "$") 0 ∷ mark 3 0 ∷ mark 3 0 ∷ mark 9 0 ∷ chars [] 0
+    ∷ mark 8 0 ∷ mark 4 0 ∷ mark 5 0 ∷ mark 6 0 ∷ mark 7 0 ∷ []
+unfolding called
+last-bytes = refl
 
 -- the refusals carry their tokens: for 5 and 6 the place of the `$`, for 14 the opening quote, for fields the key
 pub refusals : map reading (bytes "a=${" ∷ bytes "ab${-}" ∷ bytes " =" ∷ bytes "a \n" ∷ bytes "a=\na=" ∷ bytes "Libs: 'a' \"b'" ∷ bytes "Name: ${x}" ∷ bytes "a=${b}" ∷ [])

@@ -2,9 +2,27 @@
 use Prim.Native.Nat.{ℕ}
 use Prim.Native.String.{String}
 use mathlib.Core.Path.{_≡_, refl}
-use mathlib.Core.List.{List, [], _∷_, map}
+use mathlib.Core.List.{List, [], _∷_, _++_, map}
 use Rattle.rules.specs.Bytes.{bytes, pick, within, run}
-use Rattle.rules.specs.Versions.{Order, lower, equal, higher, Met, met, notMet, noOperator, isDigit, isLetter, value, cut, runs, compareNumbers, orElse, compareLists, compareRun, compareVersions, among, asMet, meets}
+use Rattle.rules.specs.Versions.{Order, lower, equal, higher, Run, number, letters, Met, met, notMet, noOperator, isDigit, isLetter, value, cut, runs, compareNumbers, orElse, compareLists, compareRun, compareVersions, among, asMet, meets, orderNumber, metNumber}
+
+-- a version and the runs that it is cut into
+pub record Cut : Type 0 where
+  pub version : String
+  pub runs : List Run
+
+abbrev pub cuts : List Cut
+cuts =
+    record { version = ""; runs = [] }
+    ∷ record { version = "."; runs = [] }
+    ∷ record { version = "12"; runs = number 12 ∷ [] }
+    ∷ record { version = "0907"; runs = number 907 ∷ [] }
+    ∷ record { version = "1.2-rc10+Z"; runs = number 1 ∷ number 2 ∷ letters (bytes "rc") ∷ number 10 ∷ letters (bytes "Z") ∷ [] }
+    ∷ []
+
+pub cuts-say : map (λ (c : Cut). runs (bytes (c .version))) cuts ≡ map (λ (c : Cut). c .runs) cuts
+unfolding bytes pick within run isDigit isLetter value cut runs
+cuts-say = refl
 
 pub record Pair : Type 0 where
   pub first : String
@@ -90,3 +108,8 @@ asked n = meets (bytes "1.1") n (bytes "1.2") ∷ meets (bytes "1.02") n (bytes 
 pub operators-say : map (λ (o : Operator). asked (o .operator)) operators ≡ map (λ (o : Operator). o .of) operators
 unfolding bytes pick within run isDigit isLetter value cut runs compareNumbers orElse compareLists compareRun compareVersions among asMet meets
 operators-say = refl
+
+-- the numbers that the calls for C answer, as their header gives them
+pub numbers-say : map orderNumber (equal ∷ lower ∷ higher ∷ []) ++ map metNumber (notMet ∷ met ∷ noOperator ∷ []) ≡ 0 ∷ 1 ∷ 2 ∷ 0 ∷ 1 ∷ 2 ∷ []
+unfolding orderNumber metNumber
+numbers-say = refl
