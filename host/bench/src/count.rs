@@ -54,10 +54,10 @@ mod tests {
 31,525,180 (100.0%)  PROGRAM TOTALS
 
 Ir                  file:function
-20,000,100 (63.44%)  ./string/memset-vec-unaligned-erms.S:__memset_avx2_unaligned_erms [/usr/lib/libc.so.6]
-11,525,000 (36.56%)  ???:export::cabbagelute_read_in [/tmp/bench]
-        60 ( 0.00%)  ./string/memmove-vec-unaligned-erms.S:__memcpy_avx_unaligned_erms [/usr/lib/libc.so.6]
-        20 ( 0.00%)  ???:passes::sums::sum_on [/tmp/bench]
+20,000,100 (63.44%)  ./string/memset-vec-unaligned-erms.S:__memset_avx2_unaligned_erms [libc.so.6]
+11,525,000 (36.56%)  ???:export::cabbagelute_read_in [bench]
+        60 ( 0.00%)  ./string/memmove-vec-unaligned-erms.S:__memcpy_avx_unaligned_erms [libc.so.6]
+        20 ( 0.00%)  ???:passes::sums::sum_on [bench]
 ";
         assert_eq!(own(report), 11_525_080);
     }

@@ -328,7 +328,7 @@ should hold. Processor{}.
 - crate: `PkgConfig::parse` of the crate `cabbagelute`: it makes all buffers, calls the reader, and copies the values into
   strings, which are dropped.
 - zeroing: a fill of the first 12n + 64 workspace entries with 0 and nothing else. Each call ends with it (document 01,
-  \"Buffers\"), so no reader takes less.
+  \"Buffers\"), so no reader takes less; to look whether all is 0 takes as long (docs/DECISIONS.md).
 - rounds: the least and the greatest Rust / reader of the {ROUNDS} rounds, which shows how far runs differ.
 - instructions: those of the reader's calls as valgrind counts them, without fills of memory. No noise is in them.
 
