@@ -67,7 +67,7 @@ module _ {n count v : ℕ} {ws : List ℕ} (R : Room n count v ws) {pool ws′ :
       go (Set.TooLarge i) = length-replicate (4 * v) 0
       go (Set.Lacks i j) = length-replicate (4 * v) 0
 
-  -- all but the columns from 8n up to 12n is as it was
+  -- all but four columns of v entries from 8n on is as it was, so all outside 8n up to 12n
   pub resolve-keeps : Kept n ws ws′
   resolve-keeps = rw (A .is-workspace) (kept-puts n ws (8 * n) (columns v (resolveLens (rulesIn n count v ws pool))) (omega arith) (omega (arith, columns-length)))
 

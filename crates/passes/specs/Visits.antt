@@ -53,7 +53,7 @@ pub record Resumes (lens : List ℕ) (ps rest : List Piece) (s : ℕ) : Type 0 w
   pub same : Reaches lens 0 ps s rest
   pub fits : s ≤ top
 
--- There is room, all but the columns from 8n up to 12n is as it was, and each variable can go on where it stopped
+-- There is room, all but the columns from 8n up to 8n + 4v is as it was, and each variable can go on where it stopped
 pub record State (n count v : ℕ) (pool ws₀ ws : List ℕ) : Type 0 where
   pub room : Room n count v ws₀
   pub long : length ws ≡ length ws₀
@@ -62,7 +62,7 @@ pub record State (n count v : ℕ) (pool ws₀ ws : List ℕ) : Type 0 where
   pub resumes : (i : ℕ) → i < v
       → Resumes (lengthsOf n v ws) (rule n count v ws₀ pool i) (restOf n count v ws₀ pool i (getD (stopsOf n v ws) i 0)) (getD (sumsOf n v ws) i 0)
 
--- a visit of variable i, which has no value; what stands from 11n on it leaves
+-- a visit of variable i, which has no value; what stands from 8n + 3v on it leaves
 abbrev pub Visits : ℕ → ℕ → ℕ → List ℕ → List ℕ → List ℕ → ℕ → Visited → Type 0
 Visits n count v pool ws ws′ i Vis.Over = add (lengthsOf n v ws) 0 (rule n count v ws pool i) ≡ Sum.over
 Visits n count v pool ws ws′ i Vis.Known = ⊥
