@@ -8,7 +8,7 @@ use native.Mathlib.Omega.{arith}
 use native.Mathlib.Decide.{ℕ-discrete, decLt}
 use lib.ListN.{length, take, drop, getD, drop-of-length-le}
 use lib.Dec.{eqb}
-use borrow.Author.Tests.{eqb-true, eq-eqb, ne-eqb, lt-ltb, le-ltb, lt-leb}
+use borrow.Author.Tests.{eqb-true, eq-eqb, ne-eqb, lt-leb}
 use Rattle.rules.specs.Bytes.{pick, is, run}
 use Rattle.rules.proofs.BytesLaws.{false-true}
 use Rattle.rules.specs.Tokens.{Token, Backslash}
@@ -16,9 +16,10 @@ use Rattle.rules.specs.Numbers.{LexError, Refusal, Lex, Result, refused, ok}
 use Rattle.rules.specs.Lexing.{Class, Lexeme, chars, reference, mark, bad, Gathered, nothingYet, gather, isLineEnd, class, second, comment, afterBackslash, afterDollar, lexeme, flush, prepend, lex, tokens}
 use Rattle.rules.proofs.LexingLaws.{lex-chars, lex-reference, lex-mark, lex-bad}
 use Rattle.scan.specs.Classes.{classNumber, classAt}
-use Rattle.scan.proofs.Classes.{class-is, class-in, tests}
+use Rattle.scan.proofs.Classes.{class-is, class-in, test, tests, test-true}
 use Rattle.scan.proofs.Lists.{rest-at}
-use Rattle.lexer.specs.Pieces.{lexemeAt, errorShown, shown, Shows, isBelow, Reads}
+use Rattle.lexer.specs.Pieces.{lexemeAt, errorShown, shown, Shows, Reads}
+use Rattle.lexer.specs.Marks.{dollarMarks, marksOf, unmarked}
 use Rattle.lexer.specs.Inner.{Accepted, hasDollar}
 use Rattle.lexer.proofs.Lexemes.{run-on, run-off, run-end, lexeme-text, lexeme-sign, lexeme-brace, lexeme-comment, lexeme-backslash, lexeme-dollar, reads-one}
 use Rattle.lexer.proofs.Lefts.{left-chars, left-token, left-bad}
@@ -200,29 +201,48 @@ module _ (text : List ℕ) (i : ℕ) (F : Fated text i) where
   unfolding lex
   fated-end h = is-fine text (F .same ∙ rw (drop-of-length-le text h))
 
--- past the bytes that are text or tokens by themselves
-fated-run : (text : List ℕ) (r i : ℕ) → Fated text i → run (isBelow 8) (drop i text) ≡ r → Fated text (i + r)
-unfolding isBelow
+-- a byte that is no `$` and hides none
+marked-class : (b : ℕ) (c : Class) → classNumber (class b) ≡ classNumber c → (test c b ≡ true → 0 < dollarMarks b) → unmarked 2 b ≡ true → ⊥
+unfolding unmarked marksOf pick
+marked-class b c q p e = let z : dollarMarks b ≡ 0 = eqb-true (dollarMarks b) 0 e in let y = p (test-true c b q) in absurd (omega arith)
+
+module _ (b : ℕ) (e : unmarked 2 b ≡ true) where
+  not-dollar : classNumber (class b) ≡ 10 → ⊥
+  unfolding dollarMarks pick classNumber
+  not-dollar q = marked-class b Class.dollar q (λ t. rw t (omega arith)) e
+
+  not-hash : classNumber (class b) ≡ 11 → ⊥
+  unfolding dollarMarks pick classNumber
+  not-hash q = marked-class b Class.hash q (λ t. rw t (omega arith)) e
+
+  not-backslash : classNumber (class b) ≡ 8 → ⊥
+  unfolding dollarMarks pick classNumber
+  not-backslash q = marked-class b Class.backslash q (λ t. rw t (omega arith)) e
+
+-- past such bytes
+fated-run : (text : List ℕ) (r i : ℕ) → Fated text i → run (unmarked 2) (drop i text) ≡ r → Fated text (i + r)
 fated-run text zero i F e = let z : i ≡ i + 0 = omega arith in rw (sym z) F
-fated-run text (suc r) i F e = go (decLt i (length text)) (decLt k 8) (λ G d. fated-run text r (i + 1) G d)
+fated-run text (suc r) i F e = go (decLt i (length text)) (unmarked 2 b) refl (λ G d. fated-run text r (i + 1) G d)
   where
-    k : ℕ
-    k = classNumber (class (getD text i 0))
+    b : ℕ
+    b = getD text i 0
 
-    go : Dec (i < length text) → Dec (k < 8) → (Fated text (i + 1) → run (isBelow 8) (drop (i + 1) text) ≡ r → Fated text (i + 1 + r)) → Fated text (i + suc r)
-    go (no h) q ih = let z = run-end (isBelow 8) text i (omega arith) in absurd (omega arith)
-    go (yes h) (no q) ih = let z = run-off (isBelow 8) text i h (le-ltb k 8 (omega arith)) in absurd (omega arith)
-    go (yes h) (yes q) ih =
-        let n = run-on (isBelow 8) text i h (lt-ltb k 8 q) in
+    go : Dec (i < length text) → (t : Bool) → unmarked 2 b ≡ t → (Fated text (i + 1) → run (unmarked 2) (drop (i + 1) text) ≡ r → Fated text (i + 1 + r)) → Fated text (i + suc r)
+    go (no h) t q ih = let z = run-end (unmarked 2) text i (omega arith) in absurd (omega arith)
+    go (yes h) false q ih = let z = run-off (unmarked 2) text i h q in absurd (omega arith)
+    go (yes h) true q ih =
+        let n = run-on (unmarked 2) text i h q in
         let z : i + 1 + r ≡ i + suc r = omega arith in
-        rw (sym z) (ih (fated-byte text i F k h refl q) (omega arith))
+        rw (sym z) (ih (fated-other text i F (classNumber (class b)) h refl (not-dollar b q) (not-hash b q) (not-backslash b q)) (omega arith))
 
-module _ (text : List ℕ) (i end : ℕ) (F : Fated text i) (e : end ≡ i + run (isBelow 8) (drop i text)) where
+-- past the byte of class c at place i, and such bytes after it
+module _ (text : List ℕ) (i : ℕ) (F : Fated text i) (c end : ℕ) (h : i < length text) (e : c ≡ classNumber (class (getD text i 0))) (f : c ≡ 10 → ⊥) (g : c ≡ 11 → ⊥) (k : c ≡ 8 → ⊥)
+    (d : end ≡ i + 1 + run (unmarked 2) (drop (i + 1) text)) where
   pub fated-quiet : Fated text end
-  fated-quiet = rw e (fated-run text (run (isBelow 8) (drop i text)) i F refl)
+  fated-quiet = rw d (fated-run text (run (unmarked 2) (drop (i + 1) text)) (i + 1) (fated-other text i F c h e f g k) refl)
 
-  pub quiet-less : i < end → length text - end < length text - i
-  quiet-less l = let m = fated-quiet .here in omega arith
+  pub quiet-less : length text - end < length text - i
+  quiet-less = let m = fated-quiet .here in omega arith
 
 -- only `$` can be refused
 bad-dollar : (c : Class) (b : ℕ) (bs : List ℕ) (e : LexError) → lexeme c b bs ≡ bad e → c ≡ Class.dollar

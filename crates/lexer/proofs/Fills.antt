@@ -23,7 +23,7 @@ use Rattle.lexer.specs.declared.Verdict.{Verdict}
 use Rattle.lexer.specs.declared.Verdict.the-variants.{Fine, Bad}
 use Rattle.lexer.specs.Lexes.{Room, Holds, Untouched, errorOf}
 use Rattle.lexer.specs.Pieces.{Reads}
-use Rattle.lexer.specs.Inner.{Accepted, Judges, Fillable, flushed, flushedCount, FlushRoom, made, PutRoom}
+use Rattle.lexer.specs.Inner.{Accepted, Judges, Fillable, flushed, flushedCount, FlushRoom, made, PutRoom, KeepRoom, kept}
 use Rattle.lexer.proofs.Lefts.{prepend-nil, prepend-prepend, kind-above, left-chars, left-token, Left, left-refused}
 
 -- Text that is being gathered
@@ -150,6 +150,9 @@ module _ (text ws₀ pool₀ ws pool : List ℕ) (i count start used source : �
         is-pool = rw flush-texts (F .is-pool);
       }
 
+  pub keep-room : i < length text → KeepRoom text pool i used
+  keep-room h = record { here = F .here; fits = omega arith }
+
   -- a turn, by its lexeme
   module _ (kind from len next : ℕ) (h : i < length text) (s : Reads text i kind from len next) where
     -- no lexeme is refused
@@ -165,20 +168,24 @@ module _ (text ws₀ pool₀ ws pool : List ℕ) (i count start used source : �
     part-length : length (take len (drop from text)) ≡ len
     part-length = length-part text from len (omega arith)
 
-    pub text-fits : from + len ≤ length text
-    text-fits = let a = s .part in let b = s .inside in omega arith
-
-    pub pool-fits : used + len ≤ length pool
-    pool-fits = omega arith
-
     pub used-word : used + len < 18446744073709551616
     used-word = omega arith
 
+    -- what the piece gives to the pool
+    kept-chars : kind ≡ 1 → kept text kind from len ≡ take len (drop from text)
+    unfolding kept pick
+    kept-chars q = rw q
+
+    kept-none : (kind ≡ 1 → ⊥) → kept text kind from len ≡ []
+    unfolding kept pick
+    kept-none n = rw (ne-eqb kind 1 n)
+
     pub fill-text : (pool′ : List ℕ) (source′ : ℕ) → kind ≡ 1 → source′ ≡ pick (eqb start used) i source
-        → pool′ ≡ puts pool used (take len (drop from text)) → Filling text ws₀ pool₀ ws pool′ next count start (used + len) source′
+        → pool′ ≡ puts pool used (kept text kind from len) → Filling text ws₀ pool₀ ws pool′ next count start (used + len) source′
     unfolding gather
-    fill-text pool′ source′ q a c =
+    fill-text pool′ source′ q a k =
         let bs = take len (drop from text) in
+        let c : pool′ ≡ puts pool used bs = k ∙ ap (puts pool used) (kept-chars q) in
         let l : length bs ≡ len = part-length in
         let f : source′ ≡ firstSource (F .w) source i = a ∙ first-is (F .w) source i start used (F .is-used) in
         record {
@@ -200,10 +207,15 @@ module _ (text ws₀ pool₀ ws pool : List ℕ) (i count start used source : �
           rest = F .rest ∙ ap (prepend (F .ts)) (left-chars text i kind from len next h s start (gathered (F .w) source) q) ∙ rw f;
         }
 
-    pub put-fits : (ws′ : List ℕ) (count′ : ℕ) → (kind ≡ 1 → ⊥) → ws′ ≡ puts ws (4 * count) (flushed start used source) → count′ ≡ count + flushedCount start used
-        → PutRoom text ws′ pool i kind from len count′ used
-    put-fits ws′ count′ n b a =
+    -- a piece that isn't Text leaves the pool as it is
+    same-pool : (pool₁ : List ℕ) → (kind ≡ 1 → ⊥) → pool₁ ≡ puts pool used (kept text kind from len) → pool₁ ≡ pool
+    same-pool pool₁ n p = p ∙ ap (puts pool used) (kept-none n)
+
+    pub put-fits : (ws′ pool₁ : List ℕ) (count′ : ℕ) → (kind ≡ 1 → ⊥) → pool₁ ≡ puts pool used (kept text kind from len) → ws′ ≡ puts ws (4 * count) (flushed start used source)
+        → count′ ≡ count + flushedCount start used → PutRoom text ws′ pool₁ i kind from len count′ used
+    put-fits ws′ pool₁ count′ n p b a =
         let e = flushed-le start used in
+        let m = ap length (same-pool pool₁ n p) in
         let l = ap length b ∙ length-puts ws (4 * count) (flushed start used source) in
         record {
           kind-is = kind-above text i kind from len next h s n fine-kind;
@@ -218,15 +230,17 @@ module _ (text ws₀ pool₀ ws pool : List ℕ) (i count start used source : �
     pub count-word : (count′ : ℕ) → count′ ≡ count + flushedCount start used → count′ + 1 < 18446744073709551616
     count-word count′ a = omega (arith, flushed-le start used)
 
-    pub fill-token : (ws′ ws″ pool′ : List ℕ) (count′ used′ : ℕ) → (kind ≡ 1 → ⊥)
+    pub fill-token : (ws′ ws″ pool₁ pool′ : List ℕ) (count′ used′ : ℕ) → (kind ≡ 1 → ⊥)
+        → pool₁ ≡ puts pool used (kept text kind from len)
         → count′ ≡ count + flushedCount start used
         → ws′ ≡ puts ws (4 * count) (flushed start used source)
         → used′ ≡ used + length (poolText (made text i kind from len used))
         → ws″ ≡ puts ws′ (4 * count′) (entry (made text i kind from len used))
-        → pool′ ≡ puts pool used (poolText (made text i kind from len used))
+        → pool′ ≡ puts pool₁ used (poolText (made text i kind from len used))
         → Filling text ws₀ pool₀ ws″ pool′ next (count′ + 1) used′ used′ 0
     unfolding nothingYet
-    fill-token ws′ ws″ pool′ count′ used′ n a b c d e =
+    fill-token ws′ ws″ pool₁ pool′ count′ used′ n p a b c d f =
+        let e : pool′ ≡ puts pool used (poolText (made text i kind from len used)) = f ∙ rw (same-pool pool₁ n p) in
         let g = gathered (F .w) source in
         let t = made text i kind from len used in
         let us = F .ts ++ flush start g in

@@ -18,7 +18,7 @@ use Rattle.rules.proofs.LexingLaws.{lexeme-fits, lex-chars, lex-reference, lex-
 use Rattle.scan.specs.Classes.{classNumber}
 use Rattle.scan.proofs.Lists.{rest-at}
 use Rattle.tokens.specs.Entries.{poolText}
-use Rattle.lexer.specs.Pieces.{lexemeAt, errorShown, shown, isBelow, isPlain, Plain, Reads}
+use Rattle.lexer.specs.Pieces.{lexemeAt, errorShown, shown, isPlain, Plain, Reads}
 use Rattle.lexer.proofs.Lexemes.{plain}
 use Rattle.lexer.specs.Inner.{Accepted, made}
 
@@ -46,7 +46,7 @@ gather-on g b cs at next = go (g .text)
     go (c ∷ s) = rw (append-assoc (c ∷ s) (b ∷ []) cs)
 
 plain-lexeme : (b : ℕ) (bs : List ℕ) → isPlain b ≡ true → lexeme (class b) b bs ≡ chars (b ∷ []) 0
-unfolding isBelow
+unfolding isPlain
 plain-lexeme b bs e = let l : classNumber (class b) < 3 = ltb-true (classNumber (class b)) 3 e in plain (class b) b bs (λ p q. omega arith)
 
 -- a run of bytes that are text by themselves is gathered at once

@@ -16,7 +16,7 @@ use Rattle.rules.proofs.LexingLaws.{second-le, run-le}
 use Rattle.scan.specs.Classes.{classNumber, classAt}
 use Rattle.scan.proofs.Classes.{class-is, test, test-true, test-false, class-in, past-end, not-past}
 use Rattle.scan.proofs.Lists.{rest-at}
-use Rattle.lexer.specs.Pieces.{lexemeAt, errorShown, shown, Shows, isBelow, isPlain, Reads}
+use Rattle.lexer.specs.Pieces.{lexemeAt, errorShown, shown, Shows, isPlain, Reads}
 
 -- how far a test holds, from place j on
 module _ (f : ℕ → Bool) (text : List ℕ) (j : ℕ) where
@@ -51,28 +51,27 @@ module _ (text : List ℕ) (j r : ℕ) (e : r ≡ classAt (drop j text)) where
 
   -- a scan from place j on; x is where it ends
   module _ (x : ℕ) where
-    module _ (k : ℕ) where
-      pub below-in : k ≤ 15 → r < k → j < length text
-      below-in m l = within (λ p. omega arith)
+    pub plain-in : r < 3 → j < length text
+    plain-in l = within (λ p. omega arith)
 
-      pub below-more : k ≤ 15 → r < k → x ≡ j + run (isBelow k) (drop j text) → x ≡ j + 1 + run (isBelow k) (drop (j + 1) text)
-      unfolding isBelow
-      below-more m l i =
-          let h = below-in m l in
-          let n = number h in
-          let z = run-on (isBelow k) text j h (lt-ltb (classNumber (class (getD text j 0))) k (omega arith)) in
-          omega arith
+    pub plain-more : r < 3 → x ≡ j + run isPlain (drop j text) → x ≡ j + 1 + run isPlain (drop (j + 1) text)
+    unfolding isPlain
+    plain-more l i =
+        let h = plain-in l in
+        let n = number h in
+        let z = run-on isPlain text j h (lt-ltb (classNumber (class (getD text j 0))) 3 (omega arith)) in
+        omega arith
 
-      pub below-stop : k ≤ r → x ≡ j + run (isBelow k) (drop j text) → j ≡ x
-      unfolding isBelow
-      below-stop l i = go (decLt j (length text))
-        where
-          go : Dec (j < length text) → j ≡ x
-          go (yes h) =
-              let n = number h in
-              let z = run-off (isBelow k) text j h (le-ltb (classNumber (class (getD text j 0))) k (omega arith)) in
-              omega arith
-          go (no h) = let z = run-end (isBelow k) text j (omega arith) in omega arith
+    pub plain-stop : 3 ≤ r → x ≡ j + run isPlain (drop j text) → j ≡ x
+    unfolding isPlain
+    plain-stop l i = go (decLt j (length text))
+      where
+        go : Dec (j < length text) → j ≡ x
+        go (yes h) =
+            let n = number h in
+            let z = run-off isPlain text j h (le-ltb (classNumber (class (getD text j 0))) 3 (omega arith)) in
+            omega arith
+        go (no h) = let z = run-end isPlain text j (omega arith) in omega arith
 
     pub name-in : r ≡ 1 → j < length text
     name-in q = within (λ p. omega arith)
@@ -88,29 +87,6 @@ module _ (text : List ℕ) (j r : ℕ) (e : r ≡ classAt (drop j text)) where
         go : Dec (j < length text) → j ≡ x
         go (yes h) = let z = run-off isIdentifier text j h (no-at Class.identifier h n) in omega arith
         go (no h) = let z = run-end isIdentifier text j (omega arith) in omega arith
-
-    pub line-more : j < length text → (r ≡ 9 → ⊥) → x ≡ j + comment (drop j text) → x ≡ j + 1 + comment (drop (j + 1) text)
-    unfolding classNumber comment
-    line-more h n i = let z = run-on (λ b. not (isLineEnd b)) text j h (rw (no-at Class.lineEnd h n)) in omega arith
-
-    pub line-stop : j < length text → r ≡ 9 → x ≡ j + comment (drop j text) → j ≡ x
-    unfolding classNumber comment
-    line-stop h q i = let z = run-off (λ b. not (isLineEnd b)) text j h (rw (yes-at Class.lineEnd h q)) in omega arith
-
--- text from place j on, by the class r of the byte there; x is where it ends
-module _ (text : List ℕ) (j r x : ℕ) (h : j < length text) (e : r ≡ classNumber (class (getD text j 0))) where
-  at-place : r ≡ classAt (drop j text)
-  at-place = e ∙ sym (class-in text j h)
-
-  pub text-more : r < 3 → x ≡ j + run isPlain (drop j text) → x ≡ j + 1 + run isPlain (drop (j + 1) text)
-  text-more m q = below-more text j r at-place x 3 (omega arith) m q
-
-  pub text-stop : 3 ≤ r → x ≡ j + run isPlain (drop j text) → j ≡ x
-  text-stop m q = below-stop text j r at-place x 3 m q
-
-pub line-end : (text : List ℕ) (j x : ℕ) → length text ≤ j → x ≡ j + comment (drop j text) → j ≡ x
-unfolding comment
-line-end text j x h i = let z = run-end (λ b. not (isLineEnd b)) text j h in omega arith
 
 comment-le : (bs : List ℕ) → comment bs ≤ length bs
 unfolding comment
@@ -385,7 +361,7 @@ module _ (text : List ℕ) (i c : ℕ) (here : i < length text) (e : c ≡ class
 -- a run of bytes that are text by themselves, or else one lexeme
 module _ (text : List ℕ) (i : ℕ) where
   pub reads-run : (r end : ℕ) → i < length text → r ≡ classNumber (class (getD text i 0)) → r < 3 → end ≡ i + 1 + run isPlain (drop (i + 1) text) → Reads text i 1 i (end - i) end
-  unfolding isBelow
+  unfolding isPlain
   reads-run r end here e l d =
       let z = run-on isPlain text i here (lt-ltb (classNumber (class (getD text i 0))) 3 (omega arith)) in
       record {

@@ -1,5 +1,6 @@
-pub mod Marks
 pub mod Lexemes
+pub mod Marks
+pub mod Keeps
 pub mod Lefts
 pub mod Fates
 pub mod Writes

@@ -6,17 +6,19 @@ use mathlib.Core.List.{List, [], _∷_}
 use native.Mathlib.Omega.{arith}
 use lib.Bits.{bitOr, or-add-and, and-le-l, and-le-r}
 use lib.Dec.{T, eqb, ltb}
-use lib.ListN.{length, take, drop, getD, drop-of-length-le}
+use lib.ListN.{length, take, drop, getD, length-drop, drop-of-length-le}
 use lib.Seq.{drop-drop}
-use borrow.Author.Tests.{eq-eqb, ltb-true, ltb-false}
+use borrow.Author.Tests.{eq-eqb, ne-eqb, ltb-true, ltb-false}
 use Rattle.rules.specs.Bytes.{pick, is, within, run}
-use Rattle.rules.specs.Lexing.{isIdentifier, isLineEnd, class}
+use Rattle.rules.specs.Lexing.{isIdentifier, isLineEnd, class, comment}
+use Rattle.rules.proofs.LexingLaws.{run-le}
 use Rattle.scan.specs.Classes.{classNumber}
 use Rattle.scan.proofs.Classes.{is-other}
 use Rattle.scan.proofs.Lists.{rest-at, length-part, part-some}
 use Rattle.scan.proofs.Table.{upTo, upTo-at, same, same-eq}
-use Rattle.lexer.specs.Marks.{one, lineMarks, textMarks, marksOver, inLine, OnRun}
-use Rattle.lexer.specs.Pieces.{isBelow, isPlain}
+use Rattle.lexer.specs.Marks.{one, lineMarks, textMarks, marksOf, unmarked, marksOver, OnRun}
+use Rattle.lexer.specs.Pieces.{isPlain}
+use Rattle.lexer.proofs.Lexemes.{run-on, run-off, run-end}
 
 -- a turn of laying the marks over another, and its end
 module _ (marks : ℕ → ℕ) (bs : List ℕ) (i n x : ℕ) where
@@ -48,58 +50,107 @@ run-past f (suc k) (b ∷ bs) e = go (f b) refl (run-past f k bs)
     go true q ih = let z : suc (run f (take k bs)) ≡ suc k = rw (q, run) at e in let y = ih (omega arith) in rw (q, run) (omega arith)
     go false q ih = let z : 0 ≡ suc k = rw (q, run) at e in absurd (omega arith)
 
--- where no byte has a mark, and all bytes without one pass the test, the run goes over all
-run-unmarked : (f : ℕ → Bool) (marks : ℕ → ℕ) → ((b : ℕ) → marks b ≡ 0 → f b ≡ true) → (n : ℕ) (bs : List ℕ) → marksOver marks n bs ≡ 0 → run f bs ≡ length bs
-unfolding run marksOver
-run-unmarked f marks p n [] e = refl
-run-unmarked f marks p n (b ∷ bs) e =
-    let z = or-none n (marks b) (none-seen marks (bitOr n (marks b)) bs e) in
-    rw (p b (z .1), run) (ap suc (run-unmarked f marks p (bitOr n (marks b)) bs e))
-
--- a byte with no mark of a line end
-unmarked-line : (b : ℕ) → lineMarks b ≡ 0 → inLine b ≡ true
-unfolding lineMarks isLineEnd pick
-unmarked-line b e = go (is "\n" b) (is "\r" b) e
-  where
-    go : (s t : Bool) → one s + one t ≡ 0 → not (s || t) ≡ true
-    go true t e = absurd (omega arith)
-    go false true e = absurd (omega arith)
-    go false false e = refl
-
--- a byte with no mark of the end of text: one computed test of all 256
-clear : ℕ → Bool
-clear b = pick (eqb (textMarks b) 0) (same (isPlain b) true) true
-
-all-clear : T (upTo 256 clear)
-unfolding clear textMarks isBelow class classNumber isIdentifier isLineEnd is within pick
-all-clear = tt
-
-unmarked-text : (b : ℕ) → textMarks b ≡ 0 → isPlain b ≡ true
-unfolding clear pick isBelow classNumber
-unmarked-text b e = go (ltb b 256) refl
-  where
-    go : (t : Bool) → ltb b 256 ≡ t → isPlain b ≡ true
-    go true l = same-eq (isPlain b) true (rw (eq-eqb (textMarks b) 0 e) at (upTo-at 256 clear all-clear b (ltb-true b 256 l)))
-    go false l = rw (is-other b (ltb-false b 256 l))
+-- where no byte has a mark the run goes over all
+run-unmarked : (seek n : ℕ) (bs : List ℕ) → marksOver (marksOf seek) n bs ≡ 0 → run (unmarked seek) bs ≡ length bs
+unfolding run marksOver unmarked
+run-unmarked seek n [] e = refl
+run-unmarked seek n (b ∷ bs) e =
+    let z = or-none n (marksOf seek b) (none-seen (marksOf seek) (bitOr n (marksOf seek b)) bs e) in
+    rw (eq-eqb (marksOf seek b) 0 (z .1), run) (ap suc (run-unmarked seek (bitOr n (marksOf seek b)) bs e))
 
 -- at the start, and past a block at place j in which no byte has a mark
-module _ (f : ℕ → Bool) (text : List ℕ) (i : ℕ) where
-  pub on-run : i ≤ length text → OnRun f text i i
+module _ (seek : ℕ) (text : List ℕ) (i : ℕ) where
+  pub on-run : i ≤ length text → OnRun (unmarked seek) text i i
   on-run h = record { inside = h; same-end = refl }
 
-  past-block : (marks : ℕ → ℕ) → ((b : ℕ) → marks b ≡ 0 → f b ≡ true)
-      → (j m : ℕ) → 16 ≤ length text - j → m ≡ marksOver marks 0 (take (j + 16 - j) (drop j text)) → m ≤ 0 → OnRun f text i j → OnRun f text i (j + 16)
-  past-block marks p j m h q z r =
+  pub past-block : (j m : ℕ) → 16 ≤ length text - j → m ≡ marksOver (marksOf seek) 0 (take (j + 16 - j) (drop j text)) → m ≤ 0
+      → OnRun (unmarked seek) text i j → OnRun (unmarked seek) text i (j + 16)
+  past-block j m h q z r =
       let l : j + 16 ≤ length text = omega arith in
-      let t : marksOver marks 0 (take 16 (drop j text)) ≡ 0 = rw (← part-some text j 16) (omega arith) in
-      let a : run f (take 16 (drop j text)) ≡ 16 = run-unmarked f marks p 0 (take 16 (drop j text)) t ∙ length-part text j 16 l in
-      let b : run f (drop j text) ≡ 16 + run f (drop (j + 16) text) = run-past f 16 (drop j text) a ∙ rw (drop-drop 16 j text) in
+      let t : marksOver (marksOf seek) 0 (take 16 (drop j text)) ≡ 0 = rw (← part-some text j 16) (omega arith) in
+      let a : run (unmarked seek) (take 16 (drop j text)) ≡ 16 = run-unmarked seek 0 (take 16 (drop j text)) t ∙ length-part text j 16 l in
+      let b : run (unmarked seek) (drop j text) ≡ 16 + run (unmarked seek) (drop (j + 16) text) = run-past (unmarked seek) 16 (drop j text) a ∙ rw (drop-drop 16 j text) in
       let s = r .same-end in
       record { inside = l; same-end = omega arith }
 
-module _ (text : List ℕ) (i j m : ℕ) (h : 16 ≤ length text - j) where
-  pub past-line-block : m ≡ marksOver lineMarks 0 (take (j + 16 - j) (drop j text)) → m ≤ 0 → OnRun inLine text i j → OnRun inLine text i (j + 16)
-  past-line-block = past-block inLine text i lineMarks unmarked-line j m h
+-- byte by byte after the blocks: m are the marks of the byte at place j, and x is where the run ends
+module _ (seek : ℕ) (text : List ℕ) (j m x : ℕ) where
+  pub unmarked-more : j < length text → m ≡ marksOf seek (getD text j 0) → m ≤ 0 → x ≡ j + run (unmarked seek) (drop j text) → x ≡ j + 1 + run (unmarked seek) (drop (j + 1) text)
+  unfolding unmarked
+  unmarked-more h q z e =
+      let n = run-on (unmarked seek) text j h (eq-eqb (marksOf seek (getD text j 0)) 0 (omega arith)) in
+      omega arith
 
-  pub past-text-block : m ≡ marksOver textMarks 0 (take (j + 16 - j) (drop j text)) → m ≤ 0 → OnRun isPlain text i j → OnRun isPlain text i (j + 16)
-  past-text-block = past-block isPlain text i textMarks unmarked-text j m h
+  pub unmarked-stop : j < length text → m ≡ marksOf seek (getD text j 0) → 0 < m → x ≡ j + run (unmarked seek) (drop j text) → j ≡ x
+  unfolding unmarked
+  unmarked-stop h q z e =
+      let n = run-off (unmarked seek) text j h (ne-eqb (marksOf seek (getD text j 0)) 0 (λ y. omega arith)) in
+      omega arith
+
+pub unmarked-past : (seek : ℕ) (text : List ℕ) (j x : ℕ) → length text ≤ j → x ≡ j + run (unmarked seek) (drop j text) → j ≡ x
+unmarked-past seek text j x h e = let n = run-end (unmarked seek) text j h in omega arith
+
+-- a comment goes over the bytes without a mark of a line end
+unmarked-line : (b : ℕ) → unmarked 0 b ≡ not (isLineEnd b)
+unfolding unmarked marksOf lineMarks isLineEnd pick
+unmarked-line b = go (is "\n" b) (is "\r" b)
+  where
+    go : (s t : Bool) → eqb (one s + one t) 0 ≡ not (s || t)
+    go true true = refl
+    go true false = refl
+    go false true = refl
+    go false false = refl
+
+run-same : (f g : ℕ → Bool) → ((b : ℕ) → f b ≡ g b) → (bs : List ℕ) → run f bs ≡ run g bs
+unfolding run
+run-same f g p [] = refl
+run-same f g p (b ∷ bs) = go (g b) refl (run-same f g p bs)
+  where
+    go : (t : Bool) → g b ≡ t → run f bs ≡ run g bs → run f (b ∷ bs) ≡ run g (b ∷ bs)
+    go true q ih = rw (p b, q, run) (ap suc ih)
+    go false q ih = rw (p b, q, run)
+
+pub comment-run : (text : List ℕ) (i r : ℕ) → r ≡ i + run (unmarked 0) (drop i text) → r ≡ i + comment (drop i text)
+unfolding comment
+comment-run text i r e = e ∙ ap (λ (k : ℕ). i + k) (run-same (unmarked 0) (λ b. not (isLineEnd b)) unmarked-line (drop i text))
+
+-- a byte with no mark of the end of text: one computed test of all 256
+clear : ℕ → Bool
+clear b = pick (unmarked 1 b) (same (isPlain b) true) true
+
+all-clear : T (upTo 256 clear)
+unfolding clear unmarked marksOf textMarks isPlain class classNumber isIdentifier isLineEnd is within pick
+all-clear = tt
+
+unmarked-text : (b : ℕ) → unmarked 1 b ≡ true → isPlain b ≡ true
+unfolding clear pick isPlain classNumber
+unmarked-text b e = go (ltb b 256) refl
+  where
+    go : (t : Bool) → ltb b 256 ≡ t → isPlain b ≡ true
+    go true l = same-eq (isPlain b) true (rw e at (upTo-at 256 clear all-clear b (ltb-true b 256 l)))
+    go false l = rw (is-other b (ltb-false b 256 l))
+
+-- a run of bytes of which each also passes another test: the run by that test goes over it
+run-over : (f g : ℕ → Bool) → ((b : ℕ) → f b ≡ true → g b ≡ true) → (bs : List ℕ) → run g bs ≡ run f bs + run g (drop (run f bs) bs)
+unfolding run
+run-over f g p [] = refl
+run-over f g p (b ∷ bs) = go (f b) refl (run-over f g p bs)
+  where
+    go : (t : Bool) → f b ≡ t → run g bs ≡ run f bs + run g (drop (run f bs) bs) → run g (b ∷ bs) ≡ run f (b ∷ bs) + run g (drop (run f (b ∷ bs)) (b ∷ bs))
+    go true q ih =
+        let m : run f (b ∷ bs) ≡ suc (run f bs) = rw (q, run) in
+        let n : run g (b ∷ bs) ≡ suc (run g bs) = rw (p b q, run) in
+        rw m (omega arith)
+    go false q ih = let m : run f (b ∷ bs) ≡ 0 = rw (q, run) in rw m (omega arith)
+
+-- what is plain from place i on ends where that does which is plain from place j on, past the bytes without a mark of the end of text
+module _ (text : List ℕ) (i j : ℕ) (e : j ≡ i + run (unmarked 1) (drop i text)) where
+  pub text-over : (r : ℕ) → r ≡ j + run isPlain (drop j text) → r ≡ i + run isPlain (drop i text)
+  text-over r d =
+      let a = run-over (unmarked 1) isPlain unmarked-text (drop i text) in
+      let b : drop (run (unmarked 1) (drop i text)) (drop i text) ≡ drop j text = drop-drop (run (unmarked 1) (drop i text)) i text ∙ rw e in
+      let c : run isPlain (drop i text) ≡ run (unmarked 1) (drop i text) + run isPlain (drop j text) = a ∙ rw b in
+      omega arith
+
+  pub text-inside : i ≤ length text → j ≤ length text
+  text-inside h = omega (arith, run-le (unmarked 1) (drop i text), length-drop i text)

@@ -28,6 +28,15 @@ abbrev pub Judges : List ℕ → Verdict → Type 0
 Judges text Fine = Accepted text
 Judges text (Bad e at) = tokens text ≡ refused (Lex (errorOf e) at)
 
+-- the bytes that a piece of this kind gives to the pool, if it is Text
+unfoldable pub kept : List ℕ → ℕ → ℕ → ℕ → List ℕ
+kept text kind from len = pick (eqb kind Text) (take len (drop from text)) []
+
+-- room from place `used` of the pool on for all that is left of the text at place i
+pub record KeepRoom (text pool : List ℕ) (i used : ℕ) : Type 0 where
+  pub here : i ≤ length text
+  pub fits : used + (length text - i) ≤ length pool
+
 -- what the pass that fills asks: room, and a text that isn't refused
 pub record Fillable (text ws pool : List ℕ) : Type 0 where
   pub room : Room text ws pool

@@ -1,28 +1,35 @@
 -- What the contracts of the functions that pass a block at a time cite. No public contract rests on it. Assumes nothing.
 use Prim.Native.Nat.{ℕ, _+_, _≤_}
 use mathlib.Core.Path.{_≡_}
-use mathlib.Core.Bool.{Bool, not}
+use mathlib.Core.Bool.{Bool}
 use mathlib.Core.List.{List, [], _∷_}
 use lib.ListN.{length, drop}
-use lib.Dec.{ltb}
+use lib.Dec.{eqb, ltb}
 use lib.Bits.{bitOr}
 use Rattle.rules.specs.Bytes.{pick, is, run}
-use Rattle.rules.specs.Lexing.{isLineEnd}
 
 -- 1 where the test holds
 abbrev pub one : Bool → ℕ
 one t = pick t 1 0
 
--- what a comment goes over
-abbrev pub inLine : ℕ → Bool
-inLine b = not (isLineEnd b)
-
+-- a comment ends at such a mark
 unfoldable pub lineMarks : ℕ → ℕ
 lineMarks b = one (is "\n" b) + one (is "\r" b)
 
 -- no byte without such a mark ends a run of bytes that are text by themselves; `(` comes after all blanks, line ends, quotes, `#` and `$`
 unfoldable pub textMarks : ℕ → ℕ
 textMarks b = one (ltb b 40) + one (is ":" b) + one (is "=" b) + one (is "\\" b) + one (is "{" b) + one (is "}" b)
+
+-- only `$` can be refused, and only `#` and a backslash can hide one
+unfoldable pub dollarMarks : ℕ → ℕ
+dollarMarks b = one (is "#" b) + one (is "$" b) + one (is "\\" b)
+
+-- by what is looked for
+unfoldable pub marksOf : ℕ → ℕ → ℕ
+marksOf seek b = pick (eqb seek 0) (lineMarks b) (pick (eqb seek 1) (textMarks b) (dollarMarks b))
+
+unfoldable pub unmarked : ℕ → ℕ → Bool
+unmarked seek b = eqb (marksOf seek b) 0
 
 -- the marks of all bytes, one over another and over those seen before
 unfoldable pub marksOver : (ℕ → ℕ) → ℕ → List ℕ → ℕ

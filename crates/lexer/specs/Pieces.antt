@@ -40,13 +40,9 @@ pub record Shows (text : List ℕ) (i : ℕ) (x : Lexeme) (kind from len next : 
   pub after : i ≤ from
   pub part : from + len ≤ next
 
--- the byte's class is below k
-unfoldable pub isBelow : ℕ → ℕ → Bool
-isBelow k b = ltb (classNumber (class b)) k
-
--- identifier and other bytes, which are text by themselves
-abbrev pub isPlain : ℕ → Bool
-isPlain = isBelow 3
+-- identifier and other bytes, which are text by themselves: their classes are below those of tokens
+unfoldable pub isPlain : ℕ → Bool
+isPlain b = ltb (classNumber (class b)) 3
 
 -- the numbers show all the bytes from place i on that are text by themselves
 pub record Plain (text : List ℕ) (i kind from len : ℕ) : Type 0 where

@@ -5,10 +5,9 @@ ghost use lib.ListN.{length, drop, getD};
 ghost use Rattle.rules.specs.Bytes.{run};
 ghost use Rattle.rules.specs.Lexing.{isIdentifier, comment, second, afterBackslash, afterBrace, afterDollar};
 ghost use Rattle.scan.specs.Classes.{ClassTable};
-ghost use Rattle.lexer.specs.Pieces.{Shows, lexemeAt, isBelow, isPlain, Reads};
-use crate::blocks::Block;
-use crate::blocks::line_blocks_end;
-use crate::blocks::text_blocks_end;
+ghost use Rattle.lexer.specs.Pieces.{Shows, lexemeAt, isPlain};
+use crate::blocks::Seek;
+use crate::blocks::unmarked_end;
 use scan::class::ByteClass;
 use scan::class::CLASS;
 use scan::class::class_by;
@@ -55,18 +54,11 @@ fn name_end(table: &[u8; 256], text: &[u8], i: usize) -> usize
 }
 
 // At the next line end, or the end of the text.
-pub fn comment_end(table: &[u8; 256], text: &[u8], i: usize) -> usize
-    requires { ⌜ ClassTable (now table) × (i ≤ length (now text)) ⌝ }
+pub fn comment_end(text: &[u8], i: usize) -> usize
+    requires { ⌜ i ≤ length (now text) ⌝ }
     ensures { λ r. ⌜ r ≡ i + comment (drop i (now (text .entry))) ⌝ }
 {
-    let mut j = line_blocks_end(text, i);
-    while j < text.len() {
-        if class_by(table, text, j) == ByteClass::LINE_END {
-            return j;
-        }
-        j += 1;
-    }
-    j
+    unmarked_end(Seek::LINE_END, text, i)
 }
 
 // Past the line end at place i: LF CR and CR LF are one.
@@ -156,62 +148,31 @@ pub fn lexeme_at(table: &[u8; 256], text: &[u8], i: usize) -> Piece
         return dollar_at(table, text, i);
     }
     if first == ByteClass::HASH {
-        let next = comment_end(table, text, i + 1);
+        let next = comment_end(text, i + 1);
         return Piece::new(TokenKind::TEXT, i, 0, next);
     }
     Piece::new(TokenKind::TEXT, i, 1, i + 1)
 }
 
-// Past the bytes whose class is below `bound`.
-pub fn classes_end(table: &[u8; 256], text: &[u8], i: usize, bound: u8) -> usize
-    requires { ⌜ ClassTable (now table) × (i ≤ length (now text)) × (bound ≤ 15) ⌝ }
-    ensures { λ r. ⌜ r ≡ i + run (isBelow bound) (drop i (now (text .entry))) ⌝ }
+// Past the bytes that are text by themselves.
+fn plain_end(table: &[u8; 256], text: &[u8], i: usize) -> usize
+    requires { ⌜ ClassTable (now table) × (i ≤ length (now text)) ⌝ }
+    ensures { λ r. ⌜ r ≡ i + run isPlain (drop i (now (text .entry))) ⌝ }
 {
     let mut j = i;
-    while class_by(table, text, j) < bound {
+    while class_by(table, text, j) < ByteClass::BLANK {
         j += 1;
     }
     j
 }
 
-// Past the bytes that are text by themselves: by blocks, and byte by byte in the last one.
-fn long_text_end(table: &[u8; 256], text: &[u8], i: usize) -> usize
+// The same of many: by blocks, and one by one from the first byte on at which the run may end.
+pub fn long_plain_end(table: &[u8; 256], text: &[u8], i: usize) -> usize
     requires { ⌜ ClassTable (now table) × (i ≤ length (now text)) ⌝ }
     ensures { λ r. ⌜ r ≡ i + run isPlain (drop i (now (text .entry))) ⌝ }
 {
-    let j = text_blocks_end(text, i);
-    classes_end(table, text, j, ByteClass::BLANK)
-}
-
-// Past the bytes that are text by themselves.
-fn text_end(table: &[u8; 256], text: &[u8], i: usize) -> usize
-    requires { ⌜ ClassTable (now table) × (i ≤ length (now text)) ⌝ }
-    ensures { λ r. ⌜ r ≡ i + run isPlain (drop i (now (text .entry))) ⌝ }
-{
-    if text.len() - i < Block::NEAR {
-        return classes_end(table, text, i, ByteClass::BLANK);
-    }
-    let stop = i + Block::NEAR;
-    let mut j = i;
-    while j < stop {
-        if ByteClass::BLANK <= class_in(table, text[j]) {
-            return j;
-        }
-        j += 1;
-    }
-    long_text_end(table, text, j)
-}
-
-// All the bytes from place i on that are text by themselves, or else one lexeme.
-pub fn piece_at(table: &[u8; 256], text: &[u8], i: usize) -> Piece
-    requires { ⌜ ClassTable (now table) × (i < length (now text)) ⌝ }
-    ensures { λ r. ⌜ Reads (now (text .entry)) i (r .kind) (r .from) (r .len) (r .next) ⌝ }
-{
-    if class_in(table, text[i]) < ByteClass::BLANK {
-        let end = text_end(table, text, i + 1);
-        return Piece::new(TokenKind::TEXT, i, end - i, end);
-    }
-    lexeme_at(table, text, i)
+    let j = unmarked_end(Seek::TEXT_END, text, i);
+    plain_end(table, text, j)
 }
 
 // The lexeme at place i, with a table of its own.

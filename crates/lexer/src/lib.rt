@@ -1,11 +1,12 @@
 // From bytes to tokens (document 01, "Lexing"; upstream lexer.rs): a pass that looks for the first refusal, and a pass that fills workspace and pool.
 pub mod blocks;
+pub mod keep;
 pub mod lexeme;
 
 ghost use mathlib.Core.Path.{_≡_};
 ghost use mathlib.Core.Bool.{false, _||_};
 ghost use Prim.Native.Nat.{_+_, _*_, _≤_, _<_};
-ghost use lib.ListN.{length, take, drop};
+ghost use lib.ListN.{length};
 ghost use lib.Dec.{eqb};
 ghost use Rattle.rules.specs.Bytes.{pick};
 ghost use Rattle.scan.specs.Classes.{ClassTable};
@@ -14,16 +15,17 @@ ghost use Rattle.tokens.specs.Entries.{entry, poolText};
 ghost use Rattle.lexer.specs.Lexes.{Room, Holds, Lexes, errorOf};
 ghost use Rattle.lexer.specs.Pieces.{errorShown};
 ghost use Rattle.lexer.specs.Inner.{hasDollar, Judges, Fillable, flushed, flushedCount, FlushRoom, made, PutRoom};
+use blocks::Seek;
+use blocks::unmarked_end;
+use keep::keep_piece;
+use keep::keep_text;
 use lexeme::Piece;
 use lexeme::backslash_at;
-use lexeme::classes_end;
 use lexeme::comment_end;
 use lexeme::dollar_at;
-use lexeme::piece_at;
 use scan::class::ByteClass;
 use scan::class::CLASS;
 use scan::class::class_in;
-use scan::store::copy;
 use scan::store::put4;
 use tokens::TokenKind;
 use utf8::code_point_at;
@@ -68,11 +70,8 @@ fn find_refusal(table: &[u8; 256], text: &[u8]) -> Verdict
 {
     let mut i = 0;
     while i < text.len() {
-        let end = classes_end(table, text, i, ByteClass::BACKSLASH);
         let c = class_in(table, text[i]);
-        if i < end {
-            i = end;
-        } else if c == ByteClass::DOLLAR {
+        if c == ByteClass::DOLLAR {
             let p = dollar_at(table, text, i);
             let kind = p.kind;
             if TokenKind::NEW_LINE < kind {
@@ -82,12 +81,12 @@ fn find_refusal(table: &[u8; 256], text: &[u8]) -> Verdict
             }
             i = p.next;
         } else if c == ByteClass::HASH {
-            i = comment_end(table, text, i + 1);
+            i = comment_end(text, i + 1);
         } else if c == ByteClass::BACKSLASH {
             let p = backslash_at(table, text, i);
             i = p.next;
         } else {
-            i += 1;
+            i = unmarked_end(Seek::DOLLAR, text, i + 1);
         }
     }
     Verdict::Fine
@@ -117,15 +116,6 @@ fn flush_text(ws: &mut [u32], count: usize, start: usize, used: usize, source: u
         return count + 1;
     }
     count
-}
-
-// The `len` bytes of the text from place `from` on go to the pool from place `used` on.
-fn keep_text(text: &[u8], from: usize, len: usize, pool: &mut [u8], used: usize)
-    requires { ⌜ (from + len ≤ length (now text)) × (used + len ≤ length (now pool)) ⌝ }
-    ensures { λ _. ⌜ now (pool .exit) ≡ puts (now (pool .entry)) used (take len (drop from (now (text .entry)))) ⌝ }
-{
-    let end = from + len;
-    copy(&text[from..end], pool, used);
 }
 
 // A token that isn't Text, at place i. Returns the pool's end.
@@ -172,13 +162,12 @@ fn fill(table: &[u8; 256], text: &[u8], ws: &mut [u32], pool: &mut [u8]) -> Fill
     let mut used = 0;
     let mut source = 0;
     while i < text.len() {
-        let p = piece_at(table, text, i);
+        let p = keep_piece(table, text, i, pool, used);
         let kind = p.kind;
         let from = p.from;
         let len = p.len;
         if kind == TokenKind::TEXT {
             source = first_source(start, used, source, i);
-            keep_text(text, from, len, pool, used);
             used = used + len;
         } else {
             count = flush_text(ws, count, start, used, source);

@@ -3,7 +3,7 @@ use borrow.Author.Needs.{needs}
 use lib.ListN.{length}
 use Prim.Native.Nat.{_-_}
 use Rattle.lexer.proofs.Lefts.{next-less}
-use Rattle.lexer.proofs.Fills.{Filling, fill-start, flush-fits, fill-end, text-fits, pool-fits, used-word, fill-text, put-fits, count-word, fill-token}
+use Rattle.lexer.proofs.Fills.{Filling, fill-start, flush-fits, fill-end, keep-room, used-word, fill-text, put-fits, count-word, fill-token}
 use Rattle.lexer.proofs.fill.Statement.{statement}
 use Rattle.lexer.proofs.fill.Tie as tie
 
@@ -16,14 +16,11 @@ abbrev μ-loop : tie.MeasureT-loop
 loop-holds : tie.Need-loop-holds Inv-loop μ-loop
 loop-holds c = search fill-start
 
-piece-at-requires : tie.Need-piece-at-requires Inv-loop μ-loop
-piece-at-requires c κs = search needs
+keep-piece-requires : tie.Need-keep-piece-requires Inv-loop μ-loop
+keep-piece-requires c κs = (search needs, search needs, search keep-room)
 
 first-source-requires : tie.Need-first-source-requires Inv-loop μ-loop
 first-source-requires c κs = search needs
-
-keep-text-requires : tie.Need-keep-text-requires Inv-loop μ-loop
-keep-text-requires c κs = (search text-fits, search pool-fits)
 
 add-used : tie.Need-add-used Inv-loop μ-loop
 add-used c = record { fits = search used-word }
@@ -32,7 +29,8 @@ flush-text-requires : tie.Need-flush-text-requires Inv-loop μ-loop
 flush-text-requires c κs = search flush-fits
 
 put-token-requires : tie.Need-put-token-requires Inv-loop μ-loop
-put-token-requires c κs = search put-fits
+put-token-requires c κs = let a = c .before .before .before .before in let b = a .before .before .before .before .before in let d = b .before .before in
+    put-fits _ _ _ _ _ _ _ _ _ _ (d .before .loop .inv) _ _ _ _ (d .loop-test .taken) (b .keep-piece .ensures .0) _ _ _ (a .before .before .if1 .left) (b .keep-piece .ensures .1) (a .flush-text .ensures .1) (a .flush-text .ensures .0)
 
 add-count : tie.Need-add-count Inv-loop μ-loop
 add-count c = record { fits = search count-word }
@@ -68,9 +66,8 @@ fill-spec =
     Inv-loop
     μ-loop
     loop-holds
-    piece-at-requires
+    keep-piece-requires
     first-source-requires
-    keep-text-requires
     add-used
     flush-text-requires
     put-token-requires

@@ -1,9 +1,8 @@
 -- `lexer::find_refusal` meets its contract. Assumes nothing.
 use borrow.Author.Needs.{needs}
-use native.Mathlib.Omega.{arith}
 use lib.ListN.{length}
 use Prim.Native.Nat.{_-_}
-use Rattle.lexer.proofs.Fates.{Fated, fated-start, fated-quiet, quiet-less, fated-dollar, dollar-bad, fated-comment, comment-less, fated-backslash, fated-other, shown-less, fated-end}
+use Rattle.lexer.proofs.Fates.{Fated, fated-start, fated-quiet, quiet-less, fated-dollar, dollar-bad, fated-comment, comment-less, fated-backslash, shown-less, fated-end}
 use Rattle.lexer.proofs.find_refusal.Statement.{statement}
 use Rattle.lexer.proofs.find_refusal.Tie as tie
 
@@ -16,20 +15,11 @@ abbrev μ-loop : tie.MeasureT-loop
 loop-holds : tie.Need-loop-holds Inv-loop μ-loop
 loop-holds c = search fated-start
 
-classes-end-requires : tie.Need-classes-end-requires Inv-loop μ-loop
-classes-end-requires c κs = search needs
-
 shared-slice-read-class-in : tie.Need-shared-slice-read-class-in Inv-loop μ-loop
 shared-slice-read-class-in c = search needs
 
 class-in-requires : tie.Need-class-in-requires Inv-loop μ-loop
 class-in-requires c κs = search needs
-
-loop-less : tie.Need-loop-less Inv-loop μ-loop
-loop-less c = search quiet-less
-
-loop-again : tie.Need-loop-again Inv-loop μ-loop
-loop-again c = search fated-quiet
 
 dollar-at-requires : tie.Need-dollar-at-requires Inv-loop μ-loop
 dollar-at-requires c κs = search needs
@@ -40,11 +30,11 @@ error-at-requires c κs = search needs
 returns : tie.Need-returns Inv-loop μ-loop
 returns c = search dollar-bad
 
-loop-less-2 : tie.Need-loop-less-2 Inv-loop μ-loop
-loop-less-2 c = search shown-less
+loop-less : tie.Need-loop-less Inv-loop μ-loop
+loop-less c = search shown-less
 
-loop-again-2 : tie.Need-loop-again-2 Inv-loop μ-loop
-loop-again-2 c = search fated-dollar
+loop-again : tie.Need-loop-again Inv-loop μ-loop
+loop-again c = search fated-dollar
 
 add-comment-end : tie.Need-add-comment-end Inv-loop μ-loop
 add-comment-end c = search needs
@@ -52,29 +42,32 @@ add-comment-end c = search needs
 comment-end-requires : tie.Need-comment-end-requires Inv-loop μ-loop
 comment-end-requires c κs = search needs
 
-loop-less-3 : tie.Need-loop-less-3 Inv-loop μ-loop
-loop-less-3 c = search comment-less
+loop-less-2 : tie.Need-loop-less-2 Inv-loop μ-loop
+loop-less-2 c = search comment-less
 
-loop-again-3 : tie.Need-loop-again-3 Inv-loop μ-loop
-loop-again-3 c = search fated-comment
+loop-again-2 : tie.Need-loop-again-2 Inv-loop μ-loop
+loop-again-2 c = search fated-comment
 
 backslash-at-requires : tie.Need-backslash-at-requires Inv-loop μ-loop
 backslash-at-requires c κs = search needs
 
+loop-less-3 : tie.Need-loop-less-3 Inv-loop μ-loop
+loop-less-3 c = search shown-less
+
+loop-again-3 : tie.Need-loop-again-3 Inv-loop μ-loop
+loop-again-3 c = search fated-backslash
+
+add-unmarked-end : tie.Need-add-unmarked-end Inv-loop μ-loop
+add-unmarked-end c = search needs
+
+unmarked-end-requires : tie.Need-unmarked-end-requires Inv-loop μ-loop
+unmarked-end-requires c κs = search needs
+
 loop-less-4 : tie.Need-loop-less-4 Inv-loop μ-loop
-loop-less-4 c = search shown-less
+loop-less-4 c = search quiet-less
 
 loop-again-4 : tie.Need-loop-again-4 Inv-loop μ-loop
-loop-again-4 c = search fated-backslash
-
-add-i : tie.Need-add-i Inv-loop μ-loop
-add-i c = search needs
-
-loop-less-5 : tie.Need-loop-less-5 Inv-loop μ-loop
-loop-less-5 c = omega arith
-
-loop-again-5 : tie.Need-loop-again-5 Inv-loop μ-loop
-loop-again-5 c = search fated-other
+loop-again-4 c = search fated-quiet
 
 returns-2 : tie.Need-returns-2 Inv-loop μ-loop
 returns-2 c = search fated-end
@@ -86,24 +79,22 @@ find-refusal-spec =
     Inv-loop
     μ-loop
     loop-holds
-    classes-end-requires
     shared-slice-read-class-in
     class-in-requires
-    loop-less
-    loop-again
     dollar-at-requires
     error-at-requires
     returns
-    loop-less-2
-    loop-again-2
+    loop-less
+    loop-again
     add-comment-end
     comment-end-requires
+    loop-less-2
+    loop-again-2
+    backslash-at-requires
     loop-less-3
     loop-again-3
-    backslash-at-requires
+    add-unmarked-end
+    unmarked-end-requires
     loop-less-4
     loop-again-4
-    add-i
-    loop-less-5
-    loop-again-5
     returns-2)

@@ -1,10 +1,10 @@
--- `lexer::keep_text` meets its contract. Assumes nothing.
+-- `lexer::keep::keep_text` meets its contract. Assumes nothing.
 use borrow.Author.Needs.{needs}
 use native.Mathlib.Omega.{arith}
 use mathlib.Core.Path.{_≡_}
 use Prim.Native.Nat.{_+_, _-_}
-use Rattle.lexer.proofs.keep_text.Statement.{statement}
-use Rattle.lexer.proofs.keep_text.Tie as tie
+use Rattle.lexer.proofs.keep.keep_text.Statement.{statement}
+use Rattle.lexer.proofs.keep.keep_text.Tie as tie
 
 add-end : tie.Need-add-end
 add-end c = search needs
