@@ -42,7 +42,7 @@ fn order_at(
     i: usize,
     key: &[u8],
 ) -> Order
-    requires { ⌜ 4 * count ≤ length (now ws) ⌝ }
+    requires { ⌜ (4 * count ≤ length (now ws)) × (first + v ≤ length (now ws)) ⌝ }
     ensures { λ r. ⌜ r ≡ orderOf (poolText (tokenAt (decode count (now (ws .entry)) (now (pool .entry))) (getD (keysFrom first v (now (ws .entry))) i 0))) (now (key .entry)) ⌝ }
 {
     let k = cell(ws, first, v, i);

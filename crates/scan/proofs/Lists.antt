@@ -26,15 +26,9 @@ part-some s start len = let e : start + len - start ≡ len = omega arith in rw 
 pub length-part : (s : List ℕ) (start len : ℕ) → start + len ≤ length s → length (take len (drop start s)) ≡ len
 length-part s start len h = length-take-le len (drop start s) (omega (arith, length-drop start s))
 
--- cells of a column: inside, past the column, past the list
+-- cells of a column: inside, past the column
 pub cell-in : (ws : List ℕ) (base n k : ℕ) → k < n → getD ws (base + k) 0 ≡ getD (take n (drop base ws)) k 0
 cell-in ws base n k h = sym (getD-take n (drop base ws) k 0 h ∙ getD-drop base ws k 0)
 
 pub cell-past : (ws : List ℕ) (base n k : ℕ) → n ≤ k → 0 ≡ getD (take n (drop base ws)) k 0
 cell-past ws base n k h = sym (List·getD-eq-default (take n (drop base ws)) 0 (omega (arith, length-take n (drop base ws))))
-
-pub cell-none : (ws : List ℕ) (base n k : ℕ) → length ws - base ≤ k → 0 ≡ getD (take n (drop base ws)) k 0
-cell-none ws base n k h = sym (List·getD-eq-default (take n (drop base ws)) 0 (omega (arith, length-take n (drop base ws), length-drop base ws)))
-
-pub cell-base : (ws : List ℕ) (base n k : ℕ) → length ws ≤ base → 0 ≡ getD (take n (drop base ws)) k 0
-cell-base ws base n k h = cell-none ws base n k (omega arith)

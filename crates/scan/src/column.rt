@@ -1,8 +1,9 @@
-// Parts of lent memory, and cells of its columns. Past the end there is nothing, so they ask nothing.
+// Parts of lent memory, and cells of its columns.
 ghost use mathlib.Core.Path.{_≡_};
-ghost use lib.ListN.{take, drop, getD};
+ghost use Prim.Native.Nat.{_+_, _≤_};
+ghost use lib.ListN.{length, take, drop, getD};
 
-// The `len` bytes from `start` on: as many of them as there are.
+// The `len` bytes from `start` on: as many of them as there are, so it asks nothing.
 pub fn part(bytes: &[u8], start: usize, len: usize) -> &[u8]
     ensures { λ r. ⌜ now r ≡ take len (drop start (now (bytes .entry))) ⌝ }
 {
@@ -17,18 +18,10 @@ pub fn part(bytes: &[u8], start: usize, len: usize) -> &[u8]
     &bytes[start..e]
 }
 
-// Entry k of the column of n entries at base; 0 past its end.
+// Entry k of the column of n entries at base, which is inside; 0 past its end.
 pub fn cell(ws: &[u32], base: usize, n: usize, k: usize) -> usize
+    requires { ⌜ base + n ≤ length (now ws) ⌝ }
     ensures { λ r. ⌜ r ≡ getD (take n (drop base (now (ws .entry)))) k 0 ⌝ }
 {
-    if n <= k {
-        return 0;
-    }
-    if ws.len() <= base {
-        return 0;
-    }
-    if ws.len() - base <= k {
-        return 0;
-    }
-    ws[base + k] as usize
+    if k < n { ws[base + k] as usize } else { 0 }
 }

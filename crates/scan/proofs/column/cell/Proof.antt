@@ -1,22 +1,10 @@
 -- `scan::column::cell` meets its contract. Assumes nothing.
 use Prim.Native.Nat.{_+_}
 use native.Mathlib.Omega.{arith}
-use Rattle.scan.proofs.Lists.{cell-in, cell-past, cell-none, cell-base}
+use Rattle.scan.proofs.Lists.{cell-in, cell-past}
 use borrow.Author.Needs.{needs}
 use Rattle.scan.proofs.column.cell.Statement.{statement}
 use Rattle.scan.proofs.column.cell.Tie as tie
-
-returns : tie.Need-returns
-returns c = search cell-past
-
-returns-2 : tie.Need-returns-2
-returns-2 c = search cell-base
-
-sub-if3 : tie.Need-sub-if3
-sub-if3 c = search needs
-
-returns-3 : tie.Need-returns-3
-returns-3 c = search cell-none
 
 add-result : tie.Need-add-result
 add-result c = search needs
@@ -28,21 +16,21 @@ shared-slice-read-result : tie.Need-shared-slice-read-result
 shared-slice-read-result c = search needs
 
 cast-result : tie.Need-cast-result
-cast-result c = omega (arith, c .shared-slice-known .given (c .before .before .before .before .args .base + c .before .before .before .before .args .k))
+cast-result c = omega (arith, c .shared-slice-known .given (c .before .before .args .base + c .before .before .args .k))
 
-returns-4 : tie.Need-returns-4
-returns-4 c = search cell-in
+returns : tie.Need-returns
+returns c = search cell-in
+
+returns-2 : tie.Need-returns-2
+returns-2 c = search cell-past
 
 pub cell-spec : {M : Type 1} → statement M
 cell-spec =
     tie.close
     (tie.spec
-    returns
-    returns-2
-    sub-if3
-    returns-3
     add-result
     mul-result
     shared-slice-read-result
     cast-result
-    returns-4)
+    returns
+    returns-2)
