@@ -68,14 +68,14 @@ module _ (size : ℕ → ℕ) (starts ends : List ℕ) (f : ℕ) where
       is-key : entry ≡ suc (entry - 1)
       is-key = omega arith
 
-      pub entry-rows : 7 < f → measureRows size starts ends f (need + 10) from to ≡ measureEntry size starts ends f need entry
+      pub entry-rows : 8 ≤ f → measureRows size starts ends f (need + 10) from to ≡ measureEntry size starts ends f need entry
       unfolding measureEntry isString pick
-      entry-rows h = rw (is-key, measureEntry, lt-leb f 7 h, fe, te) refl
+      entry-rows h = rw (is-key, measureEntry, lt-leb f 7 (omega arith), fe, te) refl
 
-      module _ (h : f ≤ 7) (a : Advance) (ae : a ≡ advance size from 0 (to - from)) where
+      module _ (h : f < 8) (a : Advance) (ae : a ≡ advance size from 0 (to - from)) where
         is-string : measureEntry size starts ends f need entry ≡ onSum f a (λ x. Need (need + (6 + x)))
         unfolding measureEntry isString pick
-        is-string = rw (is-key, measureEntry, le-leb f 7 h, ae, fe, te) refl
+        is-string = rw (is-key, measureEntry, le-leb f 7 (omega arith), ae, fe, te) refl
 
         pub entry-over : a ≡ Adv.Over → TooLarge f ≡ measureEntry size starts ends f need entry
         unfolding onSum

@@ -6,6 +6,7 @@ ghost use Rattle.passes.specs.Sums.{sizeAt, advance};
 ghost use Rattle.workspace.specs.Map.{Room, startsOf, endsOf};
 ghost use Rattle.records.specs.Contents.{fieldsOf};
 ghost use Rattle.records.specs.Measuring.{measureRows, measureEntry, measureIn};
+use crate::RecordKind;
 use passes::sums::Advance;
 use passes::sums::sum_on;
 use scan::column::cell;
@@ -69,7 +70,7 @@ fn measure_field(
     }
     let from = cell(ws, 5 * n, n, entry - 1);
     let to = cell(ws, 6 * n, n, entry - 1);
-    if 7 < f {
+    if RecordKind::FIRST_LIST <= f {
         return measure_rows(ws, pool, n, count, v, f, need + 10, from, to);
     }
     let a = sum_on(ws, pool, n, count, v, from, to, 0);
@@ -87,7 +88,7 @@ pub fn measure(ws: &[u32], pool: &[u8], n: usize, count: usize, v: usize) -> Mea
 {
     let mut need: u64 = 0;
     let mut f = 1;
-    while f <= 10 {
+    while f <= RecordKind::LAST_FIELD {
         let m = measure_field(ws, pool, n, count, v, f, need);
         match m {
             Measured::Need(x) => {

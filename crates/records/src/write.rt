@@ -8,21 +8,11 @@ ghost use Rattle.writer.specs.Tables.{tablesIn, valueBetween};
 ghost use Rattle.writer.specs.Writing.{Remembered, Written};
 ghost use Rattle.records.specs.Contents.{fieldsOf, valuesFrom, presents, Valued, Listed, Fielded};
 ghost use Rattle.records.specs.Recording.{head, listBytes, entryBytes, Standing, Fieldable, Recorded};
+use crate::RecordKind;
 use scan::column::cell;
 use scan::little::put_little;
 use writer::forget;
 use writer::write_value;
-
-pub struct RecordKind;
-
-impl RecordKind {
-    // The fields with smaller numbers are strings, this one and the later ones are lists.
-    pub const FIRST_LIST: usize = 8;
-
-    pub const LAST_FIELD: usize = 10;
-
-    pub const ARGUMENT: usize = 11;
-}
 
 // The head of a record: the payload's length in four bytes, the kind in two.
 fn put_head(out: &mut [u8], at: usize, size: usize, kind: usize)
