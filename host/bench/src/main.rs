@@ -389,11 +389,16 @@ answers 15 and 16, but not how many names are looked at.
     page
 }
 
-/// Why a row misses its bar.
+/// Whether the row misses this one of its bars.
+fn misses(row: &Row, bar: &str) -> bool {
+    row.verdict.split(", ").any(|part| part.starts_with(bar) && part.ends_with("MISSED"))
+}
+
+/// Why a row misses its bars.
 fn reason(row: &Row) -> String {
     let [rust, reader, _] = row.times;
     let mut words = Vec::new();
-    if row.verdict.contains("bar") {
+    if misses(row, "bar") {
         words.push(match row.family {
             "string" | "comment" => format!(
                 "zeroing alone is {:.0} of the reader's {reader:.0} microseconds, so no reader is more than {:.2} times as fast \
@@ -404,7 +409,7 @@ fn reason(row: &Row) -> String {
             _ => format!("the reader takes {reader:.1} microseconds, {:.1} of them for zeroing", row.zeroing),
         });
     }
-    if row.verdict.contains("growth") {
+    if misses(row, "growth") {
         words.push(format!(
             "the reader's instructions grow {:.2} times, but zeroing alone takes {:.2} times as long, where the workspace \
              outgrows a cache",
@@ -442,5 +447,11 @@ mod tests {
             "{page}"
         );
         assert!(page.contains("- reversed: 2.50 for each doubling."), "{page}");
+        let met = super::page(&[row("string", "bar 0.5 met, growth 2.3 MISSED")]);
+        assert!(!met.contains("no reader is more than"), "{met}");
+        assert!(
+            met.contains("bar 0.5 met, growth 2.3 MISSED: the reader's instructions grow 2.01 times"),
+            "{met}"
+        );
     }
 }
