@@ -9,6 +9,7 @@ use native.Mathlib.Decide.{decLt}
 use lib.Dec.{ltb, eqb}
 use borrow.Author.Tests.{ltb-true, ltb-false, lt-ltb, le-ltb, eq-eqb, ne-eqb}
 use Rattle.rules.specs.Bytes.{pick, before, same}
+use Rattle.rules.proofs.BytesLaws.{same-eq}
 use Rattle.scan.specs.declared.order.Order.{Order}
 use Rattle.scan.specs.declared.order.Order.the-variants.{Less, Equal, Greater}
 use Rattle.scan.specs.Orders.{orderOf}
@@ -141,3 +142,11 @@ module _ {a b : List ℕ} {end i : ℕ} (C : Comparing a b end i) where
     pub equal-at-end : length b ≤ length a → length a ≤ length b → Equal ≡ orderOf a b
     unfolding orderOf
     equal-at-end l m = rw (drop-of-length-le a {i = i} (omega (arith, end-above l)), drop-of-length-le b {i = i} (omega (arith, end-above l))) at (C .same)
+
+-- bytes of other lengths are not the same
+pub other-length : (a b : List ℕ) → (length a ≡ length b → ⊥) → false ≡ same a b
+other-length a b n = go (same a b) refl
+  where
+    go : (t : Bool) → same a b ≡ t → false ≡ same a b
+    go true e = absurd (n (ap length (same-eq a b e)))
+    go false e = sym e

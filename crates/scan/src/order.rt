@@ -43,9 +43,13 @@ pub fn compare(a: &[u8], b: &[u8]) -> Order
     }
 }
 
+// Most that differ do so in length.
 pub fn same_bytes(a: &[u8], b: &[u8]) -> bool
     ensures { λ r. ⌜ r ≡ same (now (a .entry)) (now (b .entry)) ⌝ }
 {
+    if a.len() != b.len() {
+        return false;
+    }
     let o = compare(a, b);
     match o {
         Order::Less => false,
