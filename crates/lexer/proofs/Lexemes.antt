@@ -16,6 +16,7 @@ use Rattle.rules.proofs.LexingLaws.{second-le, run-le}
 use Rattle.scan.specs.Classes.{classNumber, classAt}
 use Rattle.scan.proofs.Classes.{class-is, test, test-true, test-false, class-in, past-end, not-past}
 use Rattle.scan.proofs.Lists.{rest-at}
+use Rattle.lexer.specs.Marks.{OnRun}
 use Rattle.lexer.specs.Pieces.{lexemeAt, errorShown, shown, Shows, isPlain, Reads}
 
 -- how far a test holds, from place j on
@@ -31,6 +32,22 @@ module _ (f : ℕ → Bool) (text : List ℕ) (j : ℕ) where
   pub run-end : length text ≤ j → run f (drop j text) ≡ 0
   unfolding run
   run-end h = rw (drop-of-length-le text h)
+
+-- a run from place i on that goes on at place j
+module _ (f : ℕ → Bool) (text : List ℕ) (i : ℕ) where
+  pub on-run : i ≤ length text → OnRun f text i i
+  on-run h = record { inside = h; same-end = refl }
+
+  module _ (j : ℕ) (o : OnRun f text i j) where
+    pub on-more : j < length text → f (getD text j 0) ≡ true → OnRun f text i (j + 1)
+    on-more h t = record { inside = omega arith; same-end = omega (arith, run-on f text j h t, o .same-end) }
+
+    pub on-stop : (j < length text → f (getD text j 0) ≡ false) → j ≡ i + run f (drop i text)
+    on-stop n = go (decLt j (length text))
+      where
+        go : Dec (j < length text) → j ≡ i + run f (drop i text)
+        go (yes h) = omega (arith, run-off f text j h (n h), o .same-end)
+        go (no h) = omega (arith, run-end f text j (omega arith), o .same-end)
 
 -- by the class r at place j
 module _ (text : List ℕ) (j r : ℕ) (e : r ≡ classAt (drop j text)) where
@@ -49,44 +66,23 @@ module _ (text : List ℕ) (j r : ℕ) (e : r ≡ classAt (drop j text)) where
   no-at : (c : Class) → j < length text → (r ≡ classNumber c → ⊥) → test c (getD text j 0) ≡ false
   no-at c h n = test-false c (getD text j 0) (λ q. n (number h ∙ q))
 
-  -- a scan from place j on; x is where it ends
-  module _ (x : ℕ) where
-    pub plain-in : r < 3 → j < length text
-    plain-in l = within (λ p. omega arith)
-
-    pub plain-more : r < 3 → x ≡ j + run isPlain (drop j text) → x ≡ j + 1 + run isPlain (drop (j + 1) text)
+  -- a scan from place i on that has come to place j
+  module _ (i : ℕ) where
+    pub plain-more : r < 3 → OnRun isPlain text i j → OnRun isPlain text i (j + 1)
     unfolding isPlain
-    plain-more l i =
-        let h = plain-in l in
-        let n = number h in
-        let z = run-on isPlain text j h (lt-ltb (classNumber (class (getD text j 0))) 3 (omega arith)) in
-        omega arith
+    plain-more l o = let h = within (λ p. omega arith) in on-more isPlain text i j o h (lt-ltb (classNumber (class (getD text j 0))) 3 (omega (arith, number h)))
 
-    pub plain-stop : 3 ≤ r → x ≡ j + run isPlain (drop j text) → j ≡ x
+    pub plain-stop : 3 ≤ r → OnRun isPlain text i j → j ≡ i + run isPlain (drop i text)
     unfolding isPlain
-    plain-stop l i = go (decLt j (length text))
-      where
-        go : Dec (j < length text) → j ≡ x
-        go (yes h) =
-            let n = number h in
-            let z = run-off isPlain text j h (le-ltb (classNumber (class (getD text j 0))) 3 (omega arith)) in
-            omega arith
-        go (no h) = let z = run-end isPlain text j (omega arith) in omega arith
+    plain-stop l o = on-stop isPlain text i j o (λ h. le-ltb (classNumber (class (getD text j 0))) 3 (omega (arith, number h)))
 
-    pub name-in : r ≡ 1 → j < length text
-    name-in q = within (λ p. omega arith)
-
-    pub name-more : r ≡ 1 → x ≡ j + run isIdentifier (drop j text) → x ≡ j + 1 + run isIdentifier (drop (j + 1) text)
+    pub name-more : r ≡ 1 → OnRun isIdentifier text i j → OnRun isIdentifier text i (j + 1)
     unfolding classNumber
-    name-more q i = let z = run-on isIdentifier text j (name-in q) (yes-at Class.identifier (name-in q) q) in omega arith
+    name-more q o = let h = within (λ p. omega arith) in on-more isIdentifier text i j o h (yes-at Class.identifier h q)
 
-    pub name-stop : (r ≡ 1 → ⊥) → x ≡ j + run isIdentifier (drop j text) → j ≡ x
+    pub name-stop : (r ≡ 1 → ⊥) → OnRun isIdentifier text i j → j ≡ i + run isIdentifier (drop i text)
     unfolding classNumber
-    name-stop n i = go (decLt j (length text))
-      where
-        go : Dec (j < length text) → j ≡ x
-        go (yes h) = let z = run-off isIdentifier text j h (no-at Class.identifier h n) in omega arith
-        go (no h) = let z = run-end isIdentifier text j (omega arith) in omega arith
+    name-stop n o = on-stop isIdentifier text i j o (λ h. no-at Class.identifier h n)
 
 comment-le : (bs : List ℕ) → comment bs ≤ length bs
 unfolding comment

@@ -18,7 +18,7 @@ use Rattle.scan.proofs.Lists.{rest-at, length-part, part-some}
 use Rattle.scan.proofs.Table.{upTo, upTo-at, same, same-eq}
 use Rattle.lexer.specs.Marks.{one, lineMarks, textMarks, marksOf, unmarked, marksOver, OnRun}
 use Rattle.lexer.specs.Pieces.{isPlain}
-use Rattle.lexer.proofs.Lexemes.{run-on, run-off, run-end}
+use Rattle.lexer.proofs.Lexemes.{on-more, on-stop}
 
 -- a turn of laying the marks over another, and its end
 module _ (marks : ℕ → ℕ) (bs : List ℕ) (i n x : ℕ) where
@@ -58,11 +58,8 @@ run-unmarked seek n (b ∷ bs) e =
     let z = or-none n (marksOf seek b) (none-seen (marksOf seek) (bitOr n (marksOf seek b)) bs e) in
     rw (eq-eqb (marksOf seek b) 0 (z .1), run) (ap suc (run-unmarked seek (bitOr n (marksOf seek b)) bs e))
 
--- at the start, and past a block at place j in which no byte has a mark
+-- past a block at place j in which no byte has a mark
 module _ (seek : ℕ) (text : List ℕ) (i : ℕ) where
-  pub on-run : i ≤ length text → OnRun (unmarked seek) text i i
-  on-run h = record { inside = h; same-end = refl }
-
   pub past-block : (j m : ℕ) → 16 ≤ length text - j → m ≡ marksOver (marksOf seek) 0 (take (j + 16 - j) (drop j text)) → m ≤ 0
       → OnRun (unmarked seek) text i j → OnRun (unmarked seek) text i (j + 16)
   past-block j m h q z r =
@@ -73,22 +70,18 @@ module _ (seek : ℕ) (text : List ℕ) (i : ℕ) where
       let s = r .same-end in
       record { inside = l; same-end = omega arith }
 
--- byte by byte after the blocks: m are the marks of the byte at place j, and x is where the run ends
-module _ (seek : ℕ) (text : List ℕ) (j m x : ℕ) where
-  pub unmarked-more : j < length text → m ≡ marksOf seek (getD text j 0) → m ≤ 0 → x ≡ j + run (unmarked seek) (drop j text) → x ≡ j + 1 + run (unmarked seek) (drop (j + 1) text)
+-- byte by byte after the blocks: m are the marks of the byte at place j
+module _ (seek : ℕ) (text : List ℕ) (i j : ℕ) (o : OnRun (unmarked seek) text i j) where
+  pub unmarked-more : (m : ℕ) → j < length text → m ≡ marksOf seek (getD text j 0) → m ≤ 0 → OnRun (unmarked seek) text i (j + 1)
   unfolding unmarked
-  unmarked-more h q z e =
-      let n = run-on (unmarked seek) text j h (eq-eqb (marksOf seek (getD text j 0)) 0 (omega arith)) in
-      omega arith
+  unmarked-more m h q z = on-more (unmarked seek) text i j o h (eq-eqb (marksOf seek (getD text j 0)) 0 (omega arith))
 
-  pub unmarked-stop : j < length text → m ≡ marksOf seek (getD text j 0) → 0 < m → x ≡ j + run (unmarked seek) (drop j text) → j ≡ x
+  pub unmarked-stop : (m : ℕ) → m ≡ marksOf seek (getD text j 0) → 0 < m → j ≡ i + run (unmarked seek) (drop i text)
   unfolding unmarked
-  unmarked-stop h q z e =
-      let n = run-off (unmarked seek) text j h (ne-eqb (marksOf seek (getD text j 0)) 0 (λ y. omega arith)) in
-      omega arith
+  unmarked-stop m q z = on-stop (unmarked seek) text i j o (λ h. ne-eqb (marksOf seek (getD text j 0)) 0 (λ y. omega arith))
 
-pub unmarked-past : (seek : ℕ) (text : List ℕ) (j x : ℕ) → length text ≤ j → x ≡ j + run (unmarked seek) (drop j text) → j ≡ x
-unmarked-past seek text j x h e = let n = run-end (unmarked seek) text j h in omega arith
+  pub unmarked-past : length text ≤ j → j ≡ i + run (unmarked seek) (drop i text)
+  unmarked-past l = on-stop (unmarked seek) text i j o (λ h. absurd (omega arith))
 
 -- a comment goes over the bytes without a mark of a line end
 unmarked-line : (b : ℕ) → unmarked 0 b ≡ not (isLineEnd b)

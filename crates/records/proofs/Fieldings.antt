@@ -37,46 +37,58 @@ unfolding entryBytes recordsOf contentAt isString pick
 list-bytes t f k h = rw (lt-leb f 7 h, recordsOf, values-long t (getD (t .starts) k 0) (getD (t .ends) k 0)) refl
 
 -- one field, by its entry
-module _ {n count v : ℕ} {t : Tables} {entries ws out : List ℕ} {at f : ℕ} (s : Standing n count v t ws out at (entryBytes t f (getD entries f 0)) × Fielded count t entries f 1)
-    (entry : ℕ) (ee : entry ≡ getD entries f 0) where
-  pub absent : entry ≡ 0 → Written n v t ws out at (entryBytes t f (getD entries f 0)) ws out at
-  unfolding entryBytes
-  absent z =
-      let e : getD entries f 0 ≡ 0 = sym ee ∙ z in
-      subst (λ (k : ℕ). Written n v t ws out at (entryBytes t f k) ws out at) (sym e) (none-written {n = n} {v = v} {t = t} {ws = ws} {out = out} {at = at} (s .0 .remembered))
+pub absent : {n count v : ℕ} {t : Tables} {entries ws out : List ℕ} {at f : ℕ}
+    → Standing n count v t ws out at (entryBytes t f (getD entries f 0)) × Fielded count t entries f 1
+    → (entry : ℕ) → entry ≡ getD entries f 0 → entry ≡ 0 → Written n v t ws out at (entryBytes t f (getD entries f 0)) ws out at
+unfolding entryBytes
+absent {n} {v = v} {t} {entries} {ws} {out} {at} {f} s entry ee z =
+    let e : getD entries f 0 ≡ 0 = sym ee ∙ z in
+    subst (λ (k : ℕ). Written n v t ws out at (entryBytes t f k) ws out at) (sym e) (none-written {n = n} {v = v} {t = t} {ws = ws} {out = out} {at = at} (s .0 .remembered))
 
-  module _ (some : entry ≡ 0 → ⊥) (from to : ℕ) (fe : from ≡ getD (t .starts) (entry - 1) 0) (te : to ≡ getD (t .ends) (entry - 1) 0) where
-    is-key : getD entries f 0 ≡ suc (entry - 1)
-    is-key = sym ee ∙ omega arith
+-- a field that is there, and the two numbers that its row gives: from which token up to which, or from which row how many
+pub record Placed (n count v : ℕ) (t : Tables) (entries ws out : List ℕ) (at f from to : ℕ) : Type 0 where
+  pub standing : Standing n count v t ws out at (entryBytes t f (getD entries f 0))
+  pub fielded : Fielded count t entries f 1
+  pub row : ℕ
+  pub is-entry : getD entries f 0 ≡ suc row
+  pub is-from : from ≡ getD (t .starts) row 0
+  pub is-to : to ≡ getD (t .ends) row 0
 
-    standing : (bs : List ℕ) → entryBytes t f (getD entries f 0) ≡ bs → Standing n count v t ws out at bs
-    standing bs e = subst (λ (x : List ℕ). Standing n count v t ws out at x) e (s .0)
+pub place : {n count v : ℕ} {t : Tables} {entries ws out : List ℕ} {at f : ℕ}
+    → Standing n count v t ws out at (entryBytes t f (getD entries f 0)) × Fielded count t entries f 1
+    → (entry : ℕ) → entry ≡ getD entries f 0 → (entry ≡ 0 → ⊥)
+    → (from to : ℕ) → from ≡ getD (t .starts) (entry - 1) 0 → to ≡ getD (t .ends) (entry - 1) 0 → Placed n count v t entries ws out at f from to
+place s entry ee some from to fe te = record { standing = s .0; fielded = s .1; row = entry - 1; is-entry = sym ee ∙ omega arith; is-from = fe; is-to = te }
 
-    done : (bs : List ℕ) → entryBytes t f (getD entries f 0) ≡ bs → {ws′ out′ : List ℕ} {at′ : ℕ} → Written n v t ws out at bs ws′ out′ at′
+module _ {n count v : ℕ} {t : Tables} {entries ws out : List ℕ} {at f from to : ℕ} (p : Placed n count v t entries ws out at f from to) where
+  stands : (bs : List ℕ) → entryBytes t f (getD entries f 0) ≡ bs → Standing n count v t ws out at bs
+  stands bs e = subst (λ (x : List ℕ). Standing n count v t ws out at x) e (p .standing)
+
+  done : (bs : List ℕ) → entryBytes t f (getD entries f 0) ≡ bs → {ws′ out′ : List ℕ} {at′ : ℕ} → Written n v t ws out at bs ws′ out′ at′
+      → Written n v t ws out at (entryBytes t f (getD entries f 0)) ws′ out′ at′
+  done bs e {ws′} {out′} {at′} w = subst (λ (x : List ℕ). Written n v t ws out at x ws′ out′ at′) (sym e) w
+
+  module _ (h : f < 8) where
+    is-string : entryBytes t f (getD entries f 0) ≡ recordBytes f (valueBetween t from to)
+    is-string = rw (p .is-entry, string-bytes t f (p .row) (omega arith), p .is-from, p .is-to) refl
+
+    pub string-fits : Standing n count v t ws out at (recordBytes f (valueBetween t from to)) × Valued count t from to
+    string-fits = (stands (recordBytes f (valueBetween t from to)) is-string, rw (p .is-from, p .is-to) (p .fielded .strings f (p .row) (omega arith) (omega arith) (omega arith) (p .is-entry)))
+
+    pub string-done : {ws′ out′ : List ℕ} {at′ : ℕ} → Written n v t ws out at (recordBytes f (valueBetween t from to)) ws′ out′ at′
         → Written n v t ws out at (entryBytes t f (getD entries f 0)) ws′ out′ at′
-    done bs e {ws′} {out′} {at′} w = subst (λ (x : List ℕ). Written n v t ws out at x ws′ out′ at′) (sym e) w
+    string-done w = done (recordBytes f (valueBetween t from to)) is-string w
 
-    module _ (h : f < 8) where
-      is-string : entryBytes t f (getD entries f 0) ≡ recordBytes f (valueBetween t from to)
-      is-string = rw (is-key, string-bytes t f (entry - 1) (omega arith), fe, te) refl
+  module _ (h : 8 ≤ f) where
+    is-list : entryBytes t f (getD entries f 0) ≡ listBytes t f from to
+    is-list = rw (p .is-entry, list-bytes t f (p .row) (omega arith), p .is-from, p .is-to) refl
 
-      pub string-fits : Standing n count v t ws out at (recordBytes f (valueBetween t from to)) × Valued count t from to
-      string-fits = (standing (recordBytes f (valueBetween t from to)) is-string, rw (fe, te) (s .1 .strings f (entry - 1) (omega arith) (omega arith) (omega arith) is-key))
+    pub list-fits : Standing n count v t ws out at (listBytes t f from to) × Listed count t from to
+    list-fits = (stands (listBytes t f from to) is-list, rw (p .is-from, p .is-to) (p .fielded .lists f (p .row) (omega arith) (omega arith) (omega arith) (p .is-entry)))
 
-      pub string-done : {ws′ out′ : List ℕ} {at′ : ℕ} → Written n v t ws out at (recordBytes f (valueBetween t from to)) ws′ out′ at′
-          → Written n v t ws out at (entryBytes t f (getD entries f 0)) ws′ out′ at′
-      string-done w = done (recordBytes f (valueBetween t from to)) is-string w
-
-    module _ (h : 8 ≤ f) where
-      is-list : entryBytes t f (getD entries f 0) ≡ listBytes t f from to
-      is-list = rw (is-key, list-bytes t f (entry - 1) (omega arith), fe, te) refl
-
-      pub list-fits : Standing n count v t ws out at (listBytes t f from to) × Listed count t from to
-      list-fits = (standing (listBytes t f from to) is-list, rw (fe, te) (s .1 .lists f (entry - 1) (omega arith) (omega arith) (omega arith) is-key))
-
-      pub list-done : {ws′ out′ : List ℕ} {at′ : ℕ} → Written n v t ws out at (listBytes t f from to) ws′ out′ at′
-          → Written n v t ws out at (entryBytes t f (getD entries f 0)) ws′ out′ at′
-      list-done w = done (listBytes t f from to) is-list w
+    pub list-done : {ws′ out′ : List ℕ} {at′ : ℕ} → Written n v t ws out at (listBytes t f from to) ws′ out′ at′
+        → Written n v t ws out at (entryBytes t f (getD entries f 0)) ws′ out′ at′
+    list-done w = done (listBytes t f from to) is-list w
 
 -- the records of a field, and those of the later ones
 pub records-front : (t : Tables) (entries : List ℕ) (f m : ℕ) → records (presents t entries f (suc m)) ≡ entryBytes t f (getD entries f 0) ++ records (presents t entries (suc f) m)

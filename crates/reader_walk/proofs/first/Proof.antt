@@ -14,17 +14,16 @@ use prog.Memory.{Memory}
 use prog.Routine.{Routine}
 use prog.Wp.{Heap, Calls, Loops, WpFn, Tables}
 use ghost.Atoms.{Atoms, sem}
-use contract.Lifetimes.{Lfts}
 use contract.Monad.{Fun, fact}
 use contract.Running.{givenOf, tables, tablesOf}
 use types.Kit.{Given, ‵, raw, _⊛_, ⋆, some, later, _$_, _∵_, !, qed, by, move, use1, use2, split, join, pick, fsplit, fjoin, suffices, frame, await, done}
 use types.Run.{look, init, forget, stop, from, load, and-then, no-more, land, returns, enter, alloc1, alloc0, params1, pass1, pass0, free1, free0}
 use sound.WpLaws.{FmC, fmOf, WpFn-mono}
-use denote.RattleType.{RattleType, owns}
+use denote.RattleType.{owns}
 use denote.Laws.{Is, shows}
 use denote.Builtin.{u8}
 use denote.Ref.{RefT, NamedLft, now}
-use denote.Signature.{plain, namedLft}
+use denote.Signature.{plain}
 use denote.Slice.{sliceVal, ShrSlice, slice-vals, shr-slice-tells, shr-slice-lawful, shr-slice-copy}
 use denote.Steps.{peeks, heard, nothing}
 use denote.Enum.Laws as EL
@@ -40,6 +39,7 @@ use denote.Triple.Clauses.{ensured, lasts}
 use Rattle.reader_walk.specs.Steps.{stepAt}
 use Rattle.reader_walk.specs.declared.Reader.{Reader}
 use Rattle.reader_walk.specs.declared.Step.{Step}
+use Rattle.reader_walk.proofs.Holding.{B}
 use Rattle.reader_walk.proofs.Reader as T
 use Rattle.reader_walk.proofs.Reader.Laws as T′
 use Rattle.reader_walk.proofs.Step as S
@@ -56,10 +56,6 @@ use Rattle.reader_walk.proofs.first.Key.{name as #reader_walk·first}
 use Rattle.reader_walk.proofs.first as first
 use Rattle.reader_walk.proofs.first.Statement as stated
 use Rattle.reader_walk.proofs.first.Code as code
-
--- the struct's type, over the signature's lifetimes
-abbrev B : Lfts 1 → RattleType
-B κs = T.the-row (namedLft 1 0 tt κs)
 
 abbrev stayed : Stays (first.ended .signature .params) (first.ended .kept)
 stayed = (stay-none-slice (0 ∷ []) tt (plain (λ _. u8)) yes, tt)

@@ -4,7 +4,8 @@ use native.Mathlib.Omega.{arith}
 use Prim.Native.Nat.{_-_}
 use lib.ListN.{length}
 use Rattle.lexer.specs.Marks.{unmarked, OnRun}
-use Rattle.lexer.proofs.Marks.{on-run, past-block}
+use Rattle.lexer.proofs.Lexemes.{on-run}
+use Rattle.lexer.proofs.Marks.{past-block}
 use Rattle.lexer.proofs.blocks.blocks_end.Statement.{statement}
 use Rattle.lexer.proofs.blocks.blocks_end.Tie as tie
 

@@ -1,17 +1,15 @@
 -- `lexer::blocks::unmarked_end` meets its contract. Assumes nothing.
 use borrow.Author.Needs.{needs}
 use native.Mathlib.Omega.{arith}
-use mathlib.Core.Path.{_≡_}
-use Prim.Native.Nat.{_+_, _-_, _≤_}
-use lib.ListN.{length, drop}
-use Rattle.rules.specs.Bytes.{run}
-use Rattle.lexer.specs.Marks.{unmarked}
+use Prim.Native.Nat.{_-_}
+use lib.ListN.{length}
+use Rattle.lexer.specs.Marks.{unmarked, OnRun}
 use Rattle.lexer.proofs.Marks.{unmarked-more, unmarked-stop, unmarked-past}
 use Rattle.lexer.proofs.blocks.unmarked_end.Statement.{statement}
 use Rattle.lexer.proofs.blocks.unmarked_end.Tie as tie
 
 abbrev Inv-loop : tie.InvT-loop
-Inv-loop seek text i j₀ j = (j ≤ length text) × (i + run (unmarked seek) (drop i text) ≡ j + run (unmarked seek) (drop j text))
+Inv-loop seek text i j₀ j = OnRun (unmarked seek) text i j
 
 abbrev μ-loop : tie.MeasureT-loop
 μ-loop seek text i j₀ j = length text - j
@@ -38,7 +36,7 @@ loop-less : tie.Need-loop-less Inv-loop μ-loop
 loop-less c = omega arith
 
 loop-again : tie.Need-loop-again Inv-loop μ-loop
-loop-again c = (omega arith, search unmarked-more)
+loop-again c = search unmarked-more
 
 returns-2 : tie.Need-returns-2 Inv-loop μ-loop
 returns-2 c = search unmarked-past

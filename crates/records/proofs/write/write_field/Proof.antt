@@ -1,5 +1,7 @@
 use native.Mathlib.Omega.{arith}
-use Rattle.records.proofs.Fieldings.{absent, string-fits, string-done, list-fits, list-done}
+use Rattle.writer.specs.Tables.{tablesIn}
+use Rattle.records.specs.Contents.{fieldsOf}
+use Rattle.records.proofs.Fieldings.{absent, Placed, place, string-fits, string-done, list-fits, list-done}
 use borrow.Author.Needs.{needs}
 use Rattle.records.proofs.write.write_field.Statement.{statement}
 use Rattle.records.proofs.write.write_field.Tie as tie
@@ -34,11 +36,17 @@ sub-cell-2 c = search needs
 cell-requires-3 : tie.Need-cell-requires-3
 cell-requires-3 c κs = search needs
 
+-- the field is there, and its row is read
+placed : (k : tie.After-cell3)
+    → let a = k .before .before .before .before .before .before .before .before .before .before .args in
+    let t = tablesIn (a .n) (a .count) (a .v) (a .ws .now) (a .pool .now) in
+    Placed (a .n) (a .count) (a .v) t (fieldsOf (a .n) (a .ws .now)) (a .ws .now) (a .out .now) (a .at) (a .f) (k .before .before .cell2 .result) (k .cell3 .result)
+placed k =
+    let there = k .before .before .before .before in
+    place (there .before .before .before .before .before .before .pre) _ (there .before .cell .ensures) (there .if1 .left) _ _ (k .before .before .cell2 .ensures) (k .cell3 .ensures)
+
 write-record-requires : tie.Need-write-record-requires
-write-record-requires c κs =
-    let cells = c .before .before .before in
-    let there = cells .before .before .before .before in
-    string-fits (there .before .before .before .before .before .before .pre) _ (there .before .cell .ensures) (there .if1 .left) _ _ (cells .before .before .cell2 .ensures) (cells .cell3 .ensures) (c .before .before .if2 .taken)
+write-record-requires c κs = string-fits (placed (c .before .before .before)) (c .before .before .if2 .taken)
 
 same-length-2 : tie.Need-same-length-2
 same-length-2 c = search needs
@@ -48,15 +56,11 @@ same-length-3 c = search needs
 
 returns-2 : tie.Need-returns-2
 returns-2 c =
-    let cells = c .before .before .before .before .before .before .before .before in
-    let there = cells .before .before .before .before in
-    string-done (there .before .before .before .before .before .before .pre) _ (there .before .cell .ensures) (there .if1 .left) _ _ (cells .before .before .cell2 .ensures) (cells .cell3 .ensures) (c .before .before .before .before .before .before .before .if2 .taken) (c .before .before .before .before .write-record .ensures)
+    let written = c .before .before .before .before in
+    string-done (placed (written .before .before .before .before)) (written .before .before .before .if2 .taken) (written .write-record .ensures)
 
 write-list-requires : tie.Need-write-list-requires
-write-list-requires c κs =
-    let cells = c .before .before .before in
-    let there = cells .before .before .before .before in
-    list-fits (there .before .before .before .before .before .before .pre) _ (there .before .cell .ensures) (there .if1 .left) _ _ (cells .before .before .cell2 .ensures) (cells .cell3 .ensures) (c .before .before .if2 .left)
+write-list-requires c κs = list-fits (placed (c .before .before .before)) (c .before .before .if2 .left)
 
 same-length-4 : tie.Need-same-length-4
 same-length-4 c = search needs
@@ -66,9 +70,8 @@ same-length-5 c = search needs
 
 returns-3 : tie.Need-returns-3
 returns-3 c =
-    let cells = c .before .before .before .before .before .before .before .before in
-    let there = cells .before .before .before .before in
-    list-done (there .before .before .before .before .before .before .pre) _ (there .before .cell .ensures) (there .if1 .left) _ _ (cells .before .before .cell2 .ensures) (cells .cell3 .ensures) (c .before .before .before .before .before .before .before .if2 .left) (c .before .before .before .before .write-list .ensures)
+    let written = c .before .before .before .before in
+    list-done (placed (written .before .before .before .before)) (written .before .before .before .if2 .left) (written .write-list .ensures)
 
 pub write-field-spec : {M : Type 1} → statement M
 write-field-spec =
