@@ -17,7 +17,7 @@ cuts =
     ∷ record { version = "."; runs = [] }
     ∷ record { version = "12"; runs = number 12 ∷ [] }
     ∷ record { version = "0907"; runs = number 907 ∷ [] }
-    ∷ record { version = "1.2-rc10+Z"; runs = number 1 ∷ number 2 ∷ letters (bytes "rc") ∷ number 10 ∷ letters (bytes "Z") ∷ [] }
+    ∷ record { version = "1.2-rc10+AZ"; runs = number 1 ∷ number 2 ∷ letters (bytes "rc") ∷ number 10 ∷ letters (bytes "AZ") ∷ [] }
     ∷ []
 
 pub cuts-say : map (λ (c : Cut). runs (bytes (c .version))) cuts ≡ map (λ (c : Cut). c .runs) cuts
