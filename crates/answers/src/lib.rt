@@ -1,9 +1,11 @@
 // Document 01, "Numbers returned": the answers as an enum, with the detail beside it.
+#![tactic(auto)]
+
 ghost use Rattle.std.specs.Prelude.{◌≡◌};
 ghost use Rattle.answers.specs.Tells.{number_of, plain_answer};
 
 // Every answer of the reader, the listing and the exported calls, by document 01's numbers 0 to 19.
-#[derive(Drop)]
+#[derive(Clone, Copy)]
 pub enum Number {
     Accepted,
     TooLong,
@@ -28,21 +30,21 @@ pub enum Number {
 }
 
 // A name: its place in the pool, and its length.
-#[derive(Drop)]
+#[derive(Clone, Copy)]
 pub struct Name {
     pub place: u32,
     pub length: u32,
 }
 
 // A number with two names. All that isn't listed is 0.
-#[derive(Drop)]
+#[derive(Clone, Copy)]
 pub struct Detail {
     pub value: u64,
     pub first: Name,
     pub second: Name,
 }
 
-#[derive(Drop)]
+#[derive(Clone, Copy)]
 pub struct Answer {
     pub number: Number,
     pub detail: Detail,

@@ -1,27 +1,25 @@
 -- Laws of the exported calls. Assumes nothing.
-use Prim.Native.Nat.{ℕ, zero, suc, ◌+◌, ◌*◌, ◌<◌, ◌≤◌}
+use Prim.Native.Nat.{ℕ, ◌<◌, ◌≤◌}
 use mathlib.Core.Path.{◌≡◌, refl, ap, sym, ◌∙◌, subst}
 use mathlib.Core.Bool.{Bool, true, false}
-use mathlib.Core.List.{List, [], ◌∷◌, ◌++◌, append_assoc}
+use mathlib.Core.List.{List, ◌++◌, append_assoc}
 use native.Mathlib.Omega.{arith}
 use native.Mathlib.Nat.{zero-add}
 use lib.ListN.{length, replicate, length-append, length-replicate}
 use lib.Dec.{ltb}
 use borrow.Author.Tests.{lt-ltb, le-ltb}
 use Rattle.rules.specs.Bytes.{to_little, overwrite}
-use Rattle.rules.specs.Tokens.{Token}
 use Rattle.rules.specs.Numbers as Rules
 use Rattle.rules.specs.Numbers.{number, detail, Result, refused, ok}
 use Rattle.rules.specs.Reading.{reading}
-use Rattle.rules.specs.Reader.{Buffers, Outcome, read_buffers, written, untouched, read}
-use Rattle.rules.specs.Export.{Exported, name_bytes, detail_bytes, with_detail, exported_in, exported}
-use Rattle.rules.proofs.CallLaws.{Ready, Checked, checked, read-long, read-space, read-pool, read-utf8, read-on, written-buffers}
+use Rattle.rules.specs.Reader.{Outcome, read_buffers, untouched, read}
+use Rattle.rules.specs.Export.{name_bytes, detail_bytes, with_detail, exported_in, exported}
+use Rattle.rules.proofs.CallLaws.{Checked, checked, read-long, read-space, read-pool, read-utf8, read-on, written-buffers}
 use Rattle.scan.specs.Stores.{puts}
 use Rattle.scan.proofs.Stores.{puts-puts, puts-front}
 use Rattle.scan.proofs.Littles.{length-little}
-use Rattle.answers.specs.declared.Name.{Name}
 use Rattle.answers.specs.declared.Answer.{Answer}
-use Rattle.answers.specs.Tells.{number_of, Names, Tells}
+use Rattle.answers.specs.Tells.{number_of, Tells}
 use Rattle.pkg_config.specs.Call.{lent, Reads}
 use Rattle.pkg_config.proofs.Calls.{same_answer}
 use Rattle.export.specs.Calls.{ExportsIn, ExportsWith, Exports, detail_of}

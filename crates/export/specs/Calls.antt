@@ -1,7 +1,7 @@
 -- What the exported calls answer, and what they leave in the lent buffers (document 01, "Records and listing"). Assumes nothing.
-use Rattle.std.specs.Prelude.{ℕ, ◌≡◌, List, [], ◌∷◌, ◌++◌, length, replicate}
+use Rattle.std.specs.Prelude.{ℕ, ◌≡◌, List, ◌++◌, replicate}
 use Rattle.rules.specs.Bytes.{to_little}
-use Rattle.rules.specs.Export.{Exported, exported_in, exported}
+use Rattle.rules.specs.Export.{exported_in, exported}
 use Rattle.answers.specs.declared.Answer.{Answer}
 use Rattle.answers.specs.Tells.{number_of}
 use Rattle.pkg_config.specs.Call.{lent}

@@ -16,7 +16,7 @@ impl Room {
 }
 
 // What the detail says: the answer's number; bytes written, need or field; the index.
-#[derive(Drop)]
+#[derive(Clone, Copy)]
 pub struct Told {
     pub number: u32,
     pub value: u64,

@@ -1,4 +1,6 @@
 // The calls for C (document 01, "Records and listing"): include/cabbagelute.h says every promise in words.
+#![tactic(auto)]
+
 pub mod items;
 
 ghost use Rattle.std.specs.Prelude.{◌≡◌, ◌+◌, ◌≤◌, length};

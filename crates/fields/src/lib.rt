@@ -1,4 +1,6 @@
 // The limit of a text and the field numbers of document 01, as constants of named types; the field of a key; the fields already seen, as ten bits.
+#![tactic(auto)]
+
 ghost use Rattle.std.specs.Prelude.{◌≡◌, ◌≤◌, ◌^◌};
 ghost use Rattle.std.specs.Int.Bits.{bit_or};
 ghost use Rattle.rules.specs.Lines.{is_string};

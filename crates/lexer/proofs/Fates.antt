@@ -2,18 +2,18 @@
 use Prim.Native.Nat.{ℕ, zero, suc, ◌+◌, ◌-◌, ◌≤◌, ◌<◌}
 use mathlib.Core.Path.{◌≡◌, refl, ap, sym, ◌∙◌}
 use mathlib.Core.Bool.{Bool, true, false, not, ◌&&◌, ◌||◌}
-use mathlib.Core.List.{List, [], ◌∷◌, ◌++◌}
+use mathlib.Core.List.{List, [], ◌∷◌}
 use mathlib.Core.Option.{Option, none, some, none-ne-some, some-injective}
 use native.Mathlib.Omega.{arith}
 use native.Mathlib.Decide.{ℕ_discrete, dec_lt}
-use lib.ListN.{length, take, drop, get_or, drop_of_length-le}
+use lib.ListN.{length, drop, get_or, drop_of_length-le}
 use lib.Dec.{eqb}
 use borrow.Author.Tests.{eqb-true, eq-eqb, ne_eqb, lt-leb}
 use Rattle.rules.specs.Bytes.{pick, is, run}
 use Rattle.rules.proofs.BytesLaws.{false-true}
 use Rattle.rules.specs.Tokens.{Token, backslash_kind}
 use Rattle.rules.specs.Numbers.{LexError, Refusal, lex_error, Result, refused, ok}
-use Rattle.rules.specs.Lexing.{Class, Lexeme, chars, reference, mark, bad, Gathered, nothing_yet, gather, is_line_end, class, second, comment, after_backslash, after_dollar, lexeme, flush, prepend, lex, tokens}
+use Rattle.rules.specs.Lexing.{Class, Lexeme, chars, reference, mark, bad, Gathered, nothing_yet, gather, is_line_end, class, second, comment, after_backslash, after_dollar, lexeme, prepend, lex, tokens}
 use Rattle.rules.proofs.LexingLaws.{lex-chars, lex-reference, lex-mark, lex-bad}
 use Rattle.scan.specs.Classes.{class_number, class_at}
 use Rattle.scan.proofs.Classes.{class-is, class-in, test, tests, test-true}

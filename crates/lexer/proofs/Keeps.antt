@@ -1,11 +1,11 @@
 -- A run of text that is kept byte by byte: what is left to be kept comes to the whole. Assumes nothing.
-use Prim.Native.Nat.{ℕ, suc, ◌+◌, ◌-◌, ◌≤◌, ◌<◌}
+use Prim.Native.Nat.{ℕ, ◌+◌, ◌-◌, ◌≤◌, ◌<◌}
 use mathlib.Core.Path.{◌≡◌, refl, ap, sym, ◌∙◌}
 use mathlib.Core.Bool.{true, false}
 use mathlib.Core.List.{List, [], ◌∷◌}
 use native.Mathlib.Omega.{arith}
 use lib.ListN.{length, take, drop, get_or, set, length-set, length-drop}
-use borrow.Author.Tests.{eq-eqb, ne_eqb, lt-ltb, le-ltb}
+use borrow.Author.Tests.{ne_eqb, lt-ltb, le-ltb}
 use Rattle.rules.specs.Bytes.{pick, run}
 use Rattle.rules.specs.Lexing.{class}
 use Rattle.rules.proofs.LexingLaws.{run-le}

@@ -6,12 +6,12 @@ use mathlib.Core.Logic.{⊎_elim}
 use mathlib.Core.Bool.{Bool, true, false}
 use native.Mathlib.Omega.{arith}
 use native.Mathlib.Decide.{ℕ_discrete}
-use lib.ListN.{length, take, drop, get_or, drop_of_length-le}
+use lib.ListN.{length, take, drop, get_or}
 use lib.Seq.{drop-drop}
 use borrow.Author.Tests.{ltb-true, ne_eqb, le-leb, lt-leb}
 use Rattle.rules.specs.Bytes.{pick, run}
 use Rattle.rules.specs.Tokens.{Token, token, variable_kind, pooled}
-use Rattle.rules.specs.Numbers.{LexError, missing_close_variable, invalid_variable_char, lex_error, Result, refused, ok}
+use Rattle.rules.specs.Numbers.{missing_close_variable, invalid_variable_char, lex_error, Result, refused, ok}
 use Rattle.rules.specs.Utf8.{code_point}
 use Rattle.rules.specs.Lexing.{chars, reference, mark, bad, Gathered, nothing_yet, first_source, gather, class, lexeme, flush, prepend, lex, tokens}
 use Rattle.rules.proofs.LexingLaws.{lexeme-fits, lex-chars, lex-reference, lex-mark, lex-bad, lex-skip}
@@ -20,7 +20,7 @@ use Rattle.scan.proofs.Lists.{rest_at}
 use Rattle.tokens.specs.Entries.{pool_text}
 use Rattle.lexer.specs.Pieces.{lexeme_at, error_shown, shown, is_plain, Plain, Reads}
 use Rattle.lexer.proofs.Lexemes.{plain}
-use Rattle.lexer.specs.Inner.{Accepted, made}
+use Rattle.lexer.specs.Inner.{made}
 
 pub prepend-nil : (r : Result (List Token)) → prepend [] r ≡ r
 unfolding prepend

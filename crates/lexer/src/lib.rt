@@ -1,4 +1,6 @@
 // From bytes to tokens (document 01, "Lexing"; upstream lexer.rs): a pass that looks for the first refusal, and a pass that fills workspace and pool.
+#![tactic(auto)]
+
 pub mod blocks;
 pub mod keep;
 pub mod lexeme;

@@ -1,9 +1,13 @@
 // Lexes the cases of document 01, section "Both sides of each edge", and others that are easy to get wrong, and prints a line for each:
 // 0, the pool in < >, and the tokens as KIND.PLACE.TEXT.SOURCE, where PLACE is that in the pool; or the number of the refusal, its code point and the place of its `$`.
 // A line end LF is shown as `|`, CR as `%`, a space as `_`, a tab as `~`.
+#![tactic(auto)]
+
 ghost use Rattle.std.specs.Prelude.{◌*◌, ◌≤◌, length};
 
 use lexer::{LexError, Lexed};
+use std::io;
+use std::io::Write;
 
 fn shown(b: u8) -> u8 {
     match b {
@@ -15,152 +19,155 @@ fn shown(b: u8) -> u8 {
     }
 }
 
-fn print_byte(b: u8) {
-    let c = [shown(b)];
-    io::write_all(1, &c);
+fn print_byte<W: Write>(out: &mut W, b: u8) -> io::Result<()> {
+    out.write_all(&[shown(b)])
 }
 
-fn print_bytes(bytes: &[u8]) {
-    let mut i = 0;
-    while i < bytes.len() {
-        print_byte(bytes[i]);
-        i += 1;
+fn print_bytes<W: Write>(out: &mut W, bytes: &[u8]) -> io::Result<()> {
+    for b in bytes {
+        print_byte(out, *b)?;
     }
+    Ok(())
 }
 
-fn print_token(ws: &[u32], pool: &[u8], count: usize, j: usize)
+fn print_token<W: Write>(
+    out: &mut W,
+    ws: &[u32],
+    pool: &[u8],
+    count: usize,
+    j: usize,
+) -> io::Result<()>
     requires { 4 * count ≤ length ws.now }
 {
     let kind = tokens::kind_at(ws, count, j);
-    io::write_all(1, b" ");
-    io::print_decimal(1, kind as u64);
-    io::write_all(1, b".");
-    io::print_decimal(1, tokens::place_at(ws, count, j) as u64);
-    io::write_all(1, b".");
+    let place = tokens::place_at(ws, count, j);
+    let source = tokens::source_at(ws, count, j);
+    write!(out, " {kind}.{place}.")?;
     if kind <= tokens::TokenKind::VARIABLE {
-        print_bytes(tokens::text_at(ws, pool, count, j));
+        print_bytes(out, tokens::text_at(ws, pool, count, j))?;
     } else {
-        print_byte(tokens::byte_at(ws, count, j));
+        print_byte(out, tokens::byte_at(ws, count, j))?;
     }
-    io::write_all(1, b".");
-    io::print_decimal(1, tokens::source_at(ws, count, j) as u64);
+    write!(out, ".{source}")
 }
 
-fn print_tokens(ws: &[u32], pool: &[u8], count: usize, used: usize)
+fn print_tokens<W: Write>(
+    out: &mut W,
+    ws: &[u32],
+    pool: &[u8],
+    count: usize,
+    used: usize,
+) -> io::Result<()>
     requires { 4 * count ≤ length ws.now }
 {
-    io::write_all(1, b"0 <");
-    print_bytes(scan::column::part(pool, 0, used));
-    io::write_all(1, b">");
-    let mut j = 0;
-    while j < count {
-        print_token(ws, pool, count, j);
-        j += 1;
+    out.write_all(b"0 <")?;
+    print_bytes(out, scan::column::part(pool, 0, used))?;
+    out.write_all(b">")?;
+    for j in 0..count {
+        print_token(out, ws, pool, count, j)?;
     }
+    Ok(())
 }
 
-fn print_refusal(e: LexError, at: usize) {
+fn print_refusal<W: Write>(out: &mut W, e: LexError, at: usize) -> io::Result<()> {
     match e {
-        LexError::MissingCloseVariable => {
-            io::write_all(1, b"5 0 @");
-        }
-        LexError::InvalidVariableChar(c) => {
-            io::write_all(1, b"6 ");
-            io::print_decimal(1, c as u64);
-            io::write_all(1, b" @");
-        }
+        LexError::MissingCloseVariable => write!(out, "5 0 @{at}"),
+        LexError::InvalidVariableChar(c) => write!(out, "6 {c} @{at}"),
     }
-    io::print_decimal(1, at as u64);
 }
 
-fn run(text: &[u8], ws: &mut [u32], pool: &mut [u8]) {
+fn run<W: Write>(out: &mut W, text: &[u8], ws: &mut [u32], pool: &mut [u8]) -> io::Result<()> {
     let n = text.len();
     if 64 < n {
-        return;
+        return Ok(());
     }
     if ws.len() < 4 * n {
-        return;
+        return Ok(());
     }
     if pool.len() < n {
-        return;
+        return Ok(());
     }
     let r = lexer::lex(text, ws, pool);
     match r {
-        Lexed::Refused(e, at) => print_refusal(e, at),
-        Lexed::Tokens(count, used) => print_tokens(ws, pool, count, used),
+        Lexed::Refused(e, at) => print_refusal(out, e, at)?,
+        Lexed::Tokens(count, used) => print_tokens(out, ws, pool, count, used)?,
     }
-    io::write_all(1, b"\n");
+    out.write_all(b"\n")
 }
 
-fn show(text: &[u8]) {
+fn show<W: Write>(out: &mut W, text: &[u8]) -> io::Result<()> {
     let mut ws = [7u32; 256];
     let mut pool = [7u8; 64];
-    run(text, &mut ws, &mut pool);
+    run(out, text, &mut ws, &mut pool)
 }
 
 // Document 01, "Both sides of each edge".
-fn both_sides() {
-    show(b"");
-    show(b"Name: a ");
-    show(b"Name: a \n");
-    show(b"Name: a  \n");
-    show(b"Libs: ''");
-    show(b"e=\nLibs: ${e}");
-    show(b"a=${b}\nb=1\nName: ${a}");
-    show(b"a=${a}");
-    show(b"b=${c}\nc=${b}\na=${b}");
-    show(b"Name: ${}");
-    show(b"Name: $\nx");
-    show(b"Name");
-    show(b"Name\n");
-    show(b"Foo: ${x");
-    show(b"Libs: b\nLibs: 'a");
-    show(b"Cflags: \"a\\\\\"");
+fn both_sides<W: Write>(out: &mut W) -> io::Result<()> {
+    show(out, b"")?;
+    show(out, b"Name: a ")?;
+    show(out, b"Name: a \n")?;
+    show(out, b"Name: a  \n")?;
+    show(out, b"Libs: ''")?;
+    show(out, b"e=\nLibs: ${e}")?;
+    show(out, b"a=${b}\nb=1\nName: ${a}")?;
+    show(out, b"a=${a}")?;
+    show(out, b"b=${c}\nc=${b}\na=${b}")?;
+    show(out, b"Name: ${}")?;
+    show(out, b"Name: $\nx")?;
+    show(out, b"Name")?;
+    show(out, b"Name\n")?;
+    show(out, b"Foo: ${x")?;
+    show(out, b"Libs: b\nLibs: 'a")?;
+    show(out, b"Cflags: \"a\\\\\"")?;
+    Ok(())
 }
 
 // Texts that a literal reader of document 01 gets wrong.
-fn literal() {
-    show(b"Libs: \\${e}\ne=");
-    show(b"Libs: \\");
-    show(b"Libs: a\\\\\n\n");
-    show(b"Libs: a$ b");
-    show(b"Name: a$ \n");
-    show(b"Name: a #c\n");
-    show(b"Name: a #c");
-    show(b"Name:$\n\r\nURL: x");
-    show(b"${a\n}");
-    show(b"a$=b");
-    show(b"\\\\#");
-    show(b"a=${none}\nw=${v}x");
-    show(b"Libs: ${v} ${v}");
+fn literal<W: Write>(out: &mut W) -> io::Result<()> {
+    show(out, b"Libs: \\${e}\ne=")?;
+    show(out, b"Libs: \\")?;
+    show(out, b"Libs: a\\\\\n\n")?;
+    show(out, b"Libs: a$ b")?;
+    show(out, b"Name: a$ \n")?;
+    show(out, b"Name: a #c\n")?;
+    show(out, b"Name: a #c")?;
+    show(out, b"Name:$\n\r\nURL: x")?;
+    show(out, b"${a\n}")?;
+    show(out, b"a$=b")?;
+    show(out, b"\\\\#")?;
+    show(out, b"a=${none}\nw=${v}x")?;
+    show(out, b"Libs: ${v} ${v}")?;
+    Ok(())
 }
 
 // Refusals with their code points, pairs of line ends, joined lines, comments, `$`.
-fn others() {
-    show(b"${\xc3\xa9}");
-    show(b"a${\xe2\x82\xac}");
-    show(b"ab${\xf0\x9f\x98\x80}");
-    show(b"x ${");
-    show(b"${a b}");
-    show(b"${a}${b");
-    show(b"#${\na");
-    show(b"\r\n\n\r\r\r\n\n");
-    show(b"a\\\nb");
-    show(b"\\\na");
-    show(b"a\\\r\nb");
-    show(b"a#b\\\nc");
-    show(b"a#b\rc");
-    show(b"$$");
-    show(b"$$$");
-    show(b"a$");
-    show(b"a\tb");
-    show(b"\\#\\a");
-    show(b"${a}b${c.d_1}");
-    show(b"{a}");
+fn others<W: Write>(out: &mut W) -> io::Result<()> {
+    show(out, b"${\xc3\xa9}")?;
+    show(out, b"a${\xe2\x82\xac}")?;
+    show(out, b"ab${\xf0\x9f\x98\x80}")?;
+    show(out, b"x ${")?;
+    show(out, b"${a b}")?;
+    show(out, b"${a}${b")?;
+    show(out, b"#${\na")?;
+    show(out, b"\r\n\n\r\r\r\n\n")?;
+    show(out, b"a\\\nb")?;
+    show(out, b"\\\na")?;
+    show(out, b"a\\\r\nb")?;
+    show(out, b"a#b\\\nc")?;
+    show(out, b"a#b\rc")?;
+    show(out, b"$$")?;
+    show(out, b"$$$")?;
+    show(out, b"a$")?;
+    show(out, b"a\tb")?;
+    show(out, b"\\#\\a")?;
+    show(out, b"${a}b${c.d_1}")?;
+    show(out, b"{a}")?;
+    Ok(())
 }
 
-fn main() {
-    both_sides();
-    literal();
-    others();
+fn main(rt: HostRuntime) -> io::Result<()> {
+    let mut out = io::writer(&rt);
+    both_sides(&mut out)?;
+    literal(&mut out)?;
+    others(&mut out)
 }

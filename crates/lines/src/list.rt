@@ -95,7 +95,7 @@ fn flush(
 
 // How far a list value is read: arguments found, where the one being read starts and whether it has a part, whether the next token is escaped,
 // and the kind and the token of the quote that is open (0, and past the line, where none is).
-#[derive(Drop)]
+#[derive(Clone, Copy)]
 pub struct ListState {
     pub rows: usize,
     pub start: usize,

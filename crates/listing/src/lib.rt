@@ -1,4 +1,6 @@
 // Records as lines (document 01, "Records and listing").
+#![tactic(auto)]
+
 pub mod decimal;
 pub mod line;
 pub mod lines;

@@ -4,7 +4,6 @@ use mathlib.Core.Path.{◌≡◌, refl, sym, ◌∙◌, ap}
 use mathlib.Core.Bool.{Bool, true, false}
 use mathlib.Core.List.{List, [], ◌∷◌, ◌++◌, map}
 use native.Mathlib.Omega.{arith}
-use lib.Dec.{leb}
 use lib.ListN.{length, get_or, take, drop, length-map, length-drop}
 use lib.Seq.{length-take-le}
 use borrow.Author.Tests.{eqb-true}
@@ -20,9 +19,8 @@ use Rattle.scan.specs.Orders.{order_of}
 use Rattle.scan.proofs.Orders.{is_less, is_equal, told-before, told_same}
 use Rattle.tokens.specs.Entries.{decode, token_at, pool_text}
 use Rattle.workspace.specs.Map.{keys_from, starts_of, ends_of, variable_at, variables_from}
-use Rattle.names.specs.Store.{place_for, All, Texts, Searchable, place_among}
+use Rattle.names.specs.Store.{place_for, All, Searchable, place_among}
 use Rattle.names.specs.declared.Place.{Place}
-use Rattle.names.specs.declared.Place.TheVariants as Place
 
 -- the i-th name stands before the key; it is the key
 abbrev is_before : List Assignment → List ℕ → ℕ → Bool

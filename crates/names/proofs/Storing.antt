@@ -12,7 +12,6 @@ use lib.ListN.{length, get_or, take, drop, set, length-set, length-append, lengt
 use lib.Seq.{drop-set-lt, get_or-drop, get_or-set_same, get_or-set_other, take_at, drop_at, length-take-le, drop-drop, take-take, take-add}
 use Rattle.rules.specs.Bytes.{pick}
 use Rattle.rules.proofs.BytesLaws.{false-true}
-use Rattle.rules.specs.Tokens.{is_a, text_kind}
 use Rattle.rules.specs.Lines.{Assignment, assigned, insert}
 use Rattle.scan.specs.Stores.{puts}
 use Rattle.scan.proofs.Lists.{rest_at, length_part, cell_in, cell-past}
@@ -21,7 +20,7 @@ use Rattle.tokens.specs.Entries.{decode, token_at, pool_text}
 use Rattle.tokens.proofs.TokenLaws.{decode-same}
 use Rattle.workspace.specs.Map.{keys_from, starts_of, ends_of, variable_at, variables_from}
 use Rattle.names.specs.declared.Insertion.TheVariants.{Inserted, Duplicate}
-use Rattle.names.specs.Store.{place_for, All, Searchable, Insertable, Inserts, place_of, with_key, first_after, stored, new_one, is_assigned}
+use Rattle.names.specs.Store.{place_for, All, Insertable, Inserts, place_of, with_key, first_after, stored, new_one, is_assigned}
 use Rattle.names.proofs.Places.{place-insert, place-le, table-length, text-pooled}
 
 -- those from i on came from one below

@@ -11,7 +11,6 @@ use Rattle.workspace.specs.Map.{keys_from, parts_between, variables_from}
 use Rattle.names.specs.declared.Insertion.{Insertion}
 use Rattle.names.specs.declared.Insertion.TheVariants.{Inserted, Duplicate}
 use Rattle.names.specs.declared.Place.{Place}
-use Rattle.names.specs.declared.Place.TheVariants as Place
 
 -- how many names, from the front on, stand before the key: where it is to be stored
 unfoldable pub place_for : List ℕ → List Assignment → ℕ

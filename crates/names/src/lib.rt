@@ -1,6 +1,8 @@
 // Variables, kept in byte order of their names in the workspace (document 01, "Variables, then fields"); references, looked up once.
 // The map of the workspace is in crate `workspace`: key tokens in byte order at 4n, where values start and end at 5n and 6n, ranks of references at 7n.
 // While lines are read the keys stand from a place `first` on, with room on both sides: a new one moves the fewer of those before and after it.
+#![tactic(auto)]
+
 ghost use Rattle.std.specs.Prelude.{◌≡◌, [], ◌∷◌, ◌++◌, ◌+◌, ◌*◌, ◌-◌, ◌≤◌, ◌<◌, length, take, drop, get_or};
 ghost use Rattle.rules.specs.Variables.{rank_of};
 ghost use Rattle.scan.specs.Orders.{order_of};

@@ -9,7 +9,7 @@ use lib.ListN.{length, take, drop, length-drop}
 use lib.Seq.{drop-drop}
 use borrow.Author.Tests.{eq-eqb, ne_eqb}
 use Rattle.rules.specs.Bytes.{pick, is, run}
-use Rattle.rules.specs.Packages.{is_blank, is_separator, is_word, skip, word, starts_with_equals, operator_of, operator_size, nothing, item, with_version, with_operator, first_item}
+use Rattle.rules.specs.Packages.{is_blank, is_separator, is_word, skip, word, starts_with_equals, operator_of, operator_size, with_version, with_operator, first_item}
 use Rattle.rules.proofs.PackagesLaws.{pick-case}
 use Rattle.packages.specs.declared.cut.Found.{Found}
 use Rattle.packages.specs.declared.cut.Found.TheVariants.{Nothing, Malformed, Item}

@@ -1,12 +1,12 @@
 -- A walk over the items of a value: what one item takes, and what the items need so far. Assumes nothing.
-use Prim.Native.Nat.{ℕ, ◌+◌, ◌*◌, ◌-◌, ◌<◌, ◌≤◌}
+use Prim.Native.Nat.{ℕ, ◌+◌, ◌*◌, ◌<◌, ◌≤◌}
 use mathlib.Core.Path.{◌≡◌, refl, ap, sym, ◌∙◌}
 use mathlib.Core.List.{List, []}
 use native.Mathlib.Nat.{zero-add, add-zero}
 use native.Mathlib.Omega.{arith}
-use lib.ListN.{length, take, drop, length-drop}
+use lib.ListN.{length, drop, length-drop}
 use Rattle.rules.specs.Variables.{limit}
-use Rattle.rules.specs.Packages.{nothing, malformed, item, first_item, Items, items, malformed_at, after, items_of}
+use Rattle.rules.specs.Packages.{first_item, Items, items, malformed_at, after, items_of}
 use Rattle.rules.proofs.PackagesLaws.{Cut, cut_of, items-nothing, items-malformed, items-item}
 use Rattle.scan.proofs.Lists.{length_part}
 use Rattle.packages.specs.declared.cut.Place.{Place}

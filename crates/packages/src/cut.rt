@@ -48,7 +48,7 @@ impl Operator {
 }
 
 // Bytes that a run may be of: separators, blanks, those of a name or version.
-#[derive(Drop)]
+#[derive(Clone, Copy)]
 pub enum Set {
     Separators,
     Blanks,
@@ -56,7 +56,7 @@ pub enum Set {
 }
 
 // Where the name and the version of an item stand in a value, its operator, and the place after it.
-#[derive(Drop)]
+#[derive(Clone, Copy)]
 pub struct Place {
     pub name: usize,
     // the length of the name

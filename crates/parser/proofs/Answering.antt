@@ -1,24 +1,21 @@
 -- What an answer of the code tells, and the names of tokens. Assumes nothing.
-use Prim.Native.Nat.{ℕ, zero, suc, ◌+◌, ◌*◌, ◌%◌, ◌≤◌, ◌<◌}
+use Prim.Native.Nat.{ℕ, ◌+◌, ◌*◌, ◌%◌, ◌≤◌, ◌<◌}
 use mathlib.Core.Path.{◌≡◌, refl, sym, ◌∙◌, ap}
 use mathlib.Core.Bool.{Bool, true, false}
 use mathlib.Core.List.{List, [], ◌∷◌}
-use native.Mathlib.Decide.{dec_lt}
 use native.Mathlib.Omega.{arith}
-use lib.Dec.{eqb, ltb, leb}
+use lib.Dec.{ltb, leb}
 use lib.ListN.{length, get_or, take, drop, length-take, drop_of_length-le}
-use borrow.Author.Tests.{eqb-true, lt-ltb, le-ltb, le-leb}
+use borrow.Author.Tests.{eqb-true}
 use Rattle.rules.specs.Bytes.{pick, all}
 use Rattle.rules.specs.Lexing.{is_identifier, class, identifier}
 use Rattle.scan.specs.Classes.{class_number}
 use Rattle.scan.proofs.Classes.{test-true, test-false}
 use Rattle.scan.proofs.Lists.{rest_at}
-use Rattle.rules.specs.Tokens.{Token, token, no_name, is_a, text_kind, variable_kind, pooled, shown_name}
+use Rattle.rules.specs.Tokens.{Token, token, no_name, is_a, text_kind, pooled, shown_name}
 use Rattle.rules.specs.Numbers as Rules
 use Rattle.rules.specs.Numbers.{Refusal, refusal_number, refusal_detail, details, no_detail, detail, number}
 use Rattle.answers.specs.declared.Number.{Number}
-use Rattle.answers.specs.declared.Number.TheVariants as Number
-use Rattle.answers.specs.declared.Name.{Name}
 use Rattle.answers.specs.declared.Answer.{Answer}
 use Rattle.answers.specs.Tells.{number_of, Names, Tells}
 use Rattle.tokens.specs.Entries.{from_entry, decode, token_at, pool_text, place_at, entry_at}

@@ -1,36 +1,34 @@
 -- A line with `=`. Assumes nothing.
-use Prim.Native.Nat.{ℕ, zero, suc, ◌+◌, ◌*◌, ◌-◌, ◌≤◌, ◌<◌}
-use mathlib.Core.Path.{◌≡◌, refl, sym, ◌∙◌, ap, ap₂}
+use Prim.Native.Nat.{ℕ, ◌+◌, ◌*◌, ◌-◌, ◌≤◌, ◌<◌}
+use mathlib.Core.Path.{◌≡◌, refl, sym, ◌∙◌, ap}
 use mathlib.Core.Bool.{Bool, true, false}
 use mathlib.Core.List.{List, map}
 use native.Mathlib.Omega.{arith}
 use lib.ListN.{length, get_or, drop, length-take}
 use lib.Seq.{get_or-take, get_or-drop}
 use Rattle.rules.specs.Bytes.{pick, all}
-use Rattle.rules.specs.Tokens.{Token, no_name, is_a, text_kind, shown_name}
-use Rattle.rules.specs.Numbers.{Refusal, Result, refused, ok, ◌>>=◌, refusal_number, refusal_detail, details, invalid_variable_name, duplicate_variable}
-use Rattle.rules.specs.Numbers as Rules
+use Rattle.rules.specs.Tokens.{no_name, is_a, text_kind, shown_name}
+use Rattle.rules.specs.Numbers.{Result, ok, ◌>>=◌, refusal_number, refusal_detail, invalid_variable_name, duplicate_variable}
 use Rattle.rules.specs.Lexing.{is_identifier}
-use Rattle.rules.specs.Lines.{Part, as_part, Ending, trimmed, string_value, File, Item, assignment, Assignment, assigned, insert, keep, read_assignment, field_at}
-use Rattle.rules.proofs.TableLaws.{Sorted, insert-sorted}
+use Rattle.rules.specs.Lines.{Part, as_part, string_value, Item, assignment, assigned, insert, keep, read_assignment}
+use Rattle.rules.proofs.TableLaws.{insert-sorted}
 use Rattle.answers.specs.declared.Number.TheVariants as Number
 use Rattle.answers.specs.declared.Answer.{Answer}
-use Rattle.answers.specs.Tells.{Tells}
-use Rattle.tokens.specs.Entries.{decode, token_at, pool_text, kind_at}
-use Rattle.workspace.specs.Map.{dropped_kind, parts_of, between, parts_between, keys_from, starts_of, ends_of, variables_from, field_in, field_of_entry}
+use Rattle.tokens.specs.Entries.{decode, token_at, pool_text}
+use Rattle.workspace.specs.Map.{dropped_kind, between, parts_between, keys_from, starts_of, ends_of, variables_from, field_in, field_of_entry}
 use Rattle.names.specs.declared.Insertion.{Insertion}
 use Rattle.names.specs.declared.Insertion.TheVariants.{Inserted, Duplicate}
-use Rattle.names.specs.Store.{All, Texts, Searchable, Insertable, Inserts, is_assigned, place_of, with_key, first_after, stored}
+use Rattle.names.specs.Store.{Insertable, Inserts, is_assigned, place_of, with_key, first_after, stored}
 use Rattle.names.proofs.Places.{text-pooled}
 use Rattle.names.proofs.Storing.{place-fits, after-within, stored_other, stored-beyond, stored-keys, stored-start, stored-end, stored-tokens, stored-long}
-use Rattle.lines.specs.Line.{EndsLine, Stands, EndsValue, ending_at}
+use Rattle.lines.specs.Line.{EndsValue, ending_at}
 use Rattle.lines.proofs.Tokens.{is-kind, no_kind}
 use Rattle.lines.proofs.Parts.{parts-map}
 use Rattle.parser.specs.declared.Progress.{Progress}
 use Rattle.parser.specs.declared.Step.TheVariants as Step
-use Rattle.parser.specs.Parse.{Says, VariableWithin, Within, Fresh, Ready, Held, past, Takes, AtValue}
+use Rattle.parser.specs.Parse.{Says, VariableWithin, Fresh, Ready, past, Takes, AtValue}
 use Rattle.parser.proofs.Answering.{tells, text-shows}
-use Rattle.parser.proofs.Frames.{Frame, all_map, all_insert, variable-within, texts-same, field-same, entry-within, left-same, fresh-same}
+use Rattle.parser.proofs.Frames.{Frame, all_map, all_insert, variable-within, field-same, entry-within, left-same, fresh-same}
 use Rattle.parser.proofs.Lines.{past-on, past-in, past-few, past-few-more}
 
 -- a string value is the parts of its tokens, since none is dropped

@@ -1,22 +1,21 @@
 -- What the lines before token j say is as it was after stores that leave their tokens and cells. Assumes nothing.
-use Prim.Native.Nat.{ℕ, zero, suc, ◌+◌, ◌*◌, ◌-◌, ◌≤◌, ◌<◌}
+use Prim.Native.Nat.{ℕ, zero, suc, ◌+◌, ◌*◌, ◌≤◌, ◌<◌}
 use mathlib.Core.Path.{◌≡◌, refl, sym, ◌∙◌, ap, ap₂}
 use mathlib.Core.Bool.{Bool, true, false}
 use mathlib.Core.List.{List, [], ◌∷◌, ◌++◌, map}
-use mathlib.Core.Option.{Option, none, some}
+use mathlib.Core.Option.{some}
 use native.Mathlib.Omega.{arith}
-use lib.ListN.{length, get_or, take, drop}
+use lib.ListN.{get_or, take, drop}
 use Rattle.rules.specs.Bytes.{pick}
 use Rattle.rules.specs.Tokens.{Token, is_a, text_kind}
-use Rattle.rules.specs.Lines.{Part, Assignment, Field, Template, string, list, is_string}
-use Rattle.tokens.specs.Entries.{decode, token_at, kind_at}
+use Rattle.rules.specs.Lines.{Part, Assignment, Template, string, list, is_string}
+use Rattle.tokens.specs.Entries.{decode, token_at}
 use Rattle.tokens.proofs.TokenLaws.{kind-at}
-use Rattle.workspace.specs.Map.{dropped_kind, parts_between, starts_of, ends_of, variable_at, arguments_from, template_at, field_of_entry}
+use Rattle.workspace.specs.Map.{parts_between, starts_of, ends_of, variable_at, template_at, field_of_entry}
 use Rattle.names.specs.Store.{All, Texts}
-use Rattle.lines.specs.Rows.{RowWithin}
 use Rattle.lines.proofs.Parts.{parts_same, arguments-same, start-same, end_same}
 use Rattle.lines.proofs.Turns.{token-same, rest_from}
-use Rattle.parser.specs.Parse.{VariableWithin, FieldWithin, EntryWithin, Within, Fresh}
+use Rattle.parser.specs.Parse.{VariableWithin, FieldWithin, EntryWithin, Fresh}
 
 pub record Frame (n j next : ℕ) (ws ws' : List ℕ) : Type 0 where
   pub tokens : (k : ℕ) → k < 4 * j → get_or ws' k 0 ≡ get_or ws k 0

@@ -1,9 +1,9 @@
 -- A line with `:`. Assumes nothing.
-use Prim.Native.Nat.{ℕ, zero, suc, ◌+◌, ◌*◌, ◌-◌, ◌^◌, ◌≤◌, ◌<◌}
+use Prim.Native.Nat.{ℕ, suc, ◌+◌, ◌*◌, ◌^◌, ◌≤◌, ◌<◌}
 use mathlib.Core.Path.{◌≡◌, refl, sym, ◌∙◌, ap, ap₂}
 use mathlib.Core.Bool.{Bool, true, false}
 use mathlib.Core.List.{List, [], ◌∷◌, ◌++◌, map}
-use mathlib.Core.Option.{Option, none, some}
+use mathlib.Core.Option.{none, some}
 use native.Mathlib.Decide.{dec_lt}
 use native.Mathlib.Numerals.{add-one}
 use native.Mathlib.Omega.{arith}
@@ -15,31 +15,27 @@ use borrow.Author.Tests.{eq-eqb, ne_eqb}
 use Rattle.rules.specs.Bytes.{pick}
 use Rattle.rules.proofs.BytesLaws.{false-true}
 use Rattle.rules.specs.Tokens.{Token, no_name, is_a, text_kind, shown_name}
-use Rattle.rules.specs.Numbers.{Refusal, Result, refused, ok, ◌>>=◌, refusal_number, refusal_detail, details, no_detail, unknown_field, duplicate_field, unterminated_quote}
-use Rattle.rules.specs.Numbers as Rules
-use Rattle.rules.specs.Lines.{Part, Template, string, list, string_value, list_value, Field, File, Item, given, is_string, field, field_keys, field_at, keep, read_field}
+use Rattle.rules.specs.Numbers.{Result, ok, ◌>>=◌, refusal_number, refusal_detail, no_detail, unknown_field, duplicate_field, unterminated_quote}
+use Rattle.rules.specs.Lines.{Part, Template, string, list, Field, File, Item, given, is_string, field_at, keep, read_field}
 use Rattle.answers.specs.declared.Number.TheVariants as Number
 use Rattle.answers.specs.declared.Answer.{Answer}
-use Rattle.answers.specs.Tells.{Tells}
 use Rattle.scan.proofs.Lists.{cell_in}
-use Rattle.tokens.specs.Entries.{decode, token_at, pool_text, kind_at}
+use Rattle.tokens.specs.Entries.{decode, token_at, pool_text}
 use Rattle.tokens.proofs.TokenLaws.{decode-same}
-use Rattle.workspace.specs.Map.{dropped_kind, parts_of, parts_between, keys_from, starts_of, ends_of, arguments_from, template_at, variables_from, field_in, field_of_entry}
-use Rattle.names.specs.Store.{All, Texts}
+use Rattle.workspace.specs.Map.{parts_of, parts_between, keys_from, starts_of, ends_of, arguments_from, template_at, variables_from, field_in, field_of_entry}
 use Rattle.names.proofs.Places.{text-pooled}
-use Rattle.fields.specs.Seen.{bit_at, Marks, field_number}
+use Rattle.fields.specs.Seen.{bit_at, field_number}
 use Rattle.fields.proofs.Keys.{Known, unknown, known, of_number}
 use Rattle.fields.proofs.Bits.{marks-more, given_by, absent_by}
-use Rattle.lines.specs.Line.{EndsLine, Stands, EndsValue, ending_at}
-use Rattle.lines.specs.Rows.{NoneDropped, Keeps, RowWithin, Bounds, Lists}
+use Rattle.lines.specs.Line.{EndsValue, ending_at}
+use Rattle.lines.specs.Rows.{NoneDropped, Keeps, Bounds, Lists}
 use Rattle.lines.specs.declared.list.Listed.TheVariants.{Arguments, Open}
 use Rattle.lines.proofs.Tokens.{is-kind, kind-inside, between-inside}
-use Rattle.lines.proofs.Parts.{keeps-none, parts_same, arguments-same, start-same, end_same}
+use Rattle.lines.proofs.Parts.{keeps-none, arguments-same, start-same, end_same}
 use Rattle.lines.proofs.Turns.{token-same}
 use Rattle.parser.specs.declared.Progress.{Progress}
 use Rattle.parser.specs.declared.Step.{Step}
-use Rattle.parser.specs.declared.Step.TheVariants as Step
-use Rattle.parser.specs.Parse.{Says, VariableWithin, FieldWithin, EntryWithin, Within, Fresh, Ready, Held, past, Takes, AtValue, IsField, kept_field, KeepsField}
+use Rattle.parser.specs.Parse.{Says, VariableWithin, FieldWithin, EntryWithin, Ready, Held, past, Takes, AtValue, IsField, kept_field, KeepsField}
 use Rattle.parser.proofs.Answering.{tells, text-shows}
 use Rattle.parser.proofs.Frames.{Frame, all_map, variables-same, variable-within, texts-same, field-same, entry-within, left-same, fresh-same}
 use Rattle.parser.proofs.Lines.{past-on, past-in}

@@ -1,18 +1,17 @@
 -- The tokens of a text can be parsed: none has the kind of those dropped. Assumes nothing.
-use Prim.Native.Nat.{ℕ, zero, suc, ◌+◌, ◌*◌, ◌≤◌, ◌<◌}
+use Prim.Native.Nat.{ℕ, zero, suc, ◌+◌, ◌<◌}
 use mathlib.Core.Path.{◌≡◌, refl, sym, ◌∙◌, ap, subst}
 use mathlib.Core.List.{List, [], ◌∷◌, ◌++◌}
 use native.Mathlib.Omega.{arith}
-use lib.ListN.{length, get_or}
+use lib.ListN.{length}
 use Rattle.rules.specs.Tokens.{Token, token, variable_kind}
-use Rattle.rules.specs.Numbers.{Result, refused, ok}
+use Rattle.rules.specs.Numbers.{ok}
 use Rattle.rules.specs.Lexing.{Lexeme, chars, reference, mark, bad, Gathered, nothing_yet, gather, class, lexeme, text_token, flush, prepend, lex, tokens}
 use Rattle.rules.proofs.TableLaws.{ok-one, refused-ok}
 use Rattle.rules.proofs.LexingLaws.{Fits, lexeme-fits, lex-chars, lex-reference, lex-mark, lex-bad, prepend-ok}
-use Rattle.tokens.specs.Entries.{decode, token_at, kind_at}
+use Rattle.tokens.specs.Entries.{decode, token_at}
 use Rattle.tokens.proofs.TokenLaws.{kind-at, length-decode}
-use Rattle.workspace.specs.Map.{dropped_kind}
-use Rattle.parser.specs.Parse.{Fresh, Parsable}
+use Rattle.parser.specs.Parse.{Fresh}
 
 -- each has a kind
 abbrev Kinded : List Token → Type 0

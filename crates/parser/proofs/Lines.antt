@@ -1,12 +1,9 @@
 -- From what one line says to the lines, and from line to line. Assumes nothing.
-use Prim.Native.Nat.{ℕ, zero, suc, ◌+◌, ◌*◌, ◌-◌, ◌/◌, ◌≤◌, ◌<◌}
-use mathlib.Core.Path.{◌≡◌, refl, sym, ◌∙◌, ap, ap₂, subst}
-use mathlib.Core.Bool.{Bool, true, false}
+use Prim.Native.Nat.{ℕ, zero, suc, ◌+◌, ◌*◌, ◌/◌, ◌≤◌, ◌<◌}
+use mathlib.Core.Path.{◌≡◌, refl, sym, ◌∙◌, ap, subst}
 use mathlib.Core.List.{List, [], ◌∷◌, map}
-use mathlib.Core.Option.{Option, none, some}
 use native.Mathlib.Decide.{dec_lt}
 use native.Mathlib.Omega.{arith}
-use lib.Dec.{ltb}
 use lib.ListN.{length, get_or, take, drop, replicate, length-replicate}
 use lib.Seq.{take_at}
 use borrow.Author.Tests.{lt-ltb, le-ltb}
@@ -14,8 +11,7 @@ use Rattle.rules.specs.Bytes.{pick}
 use Rattle.rules.specs.Tokens.{Token}
 use Rattle.rules.specs.Numbers.{Refusal, Result, refused, ok, ◌>>=◌}
 use Rattle.rules.specs.Numbers as Rules
-use Rattle.rules.specs.Lines.{File, Field, Item, Line, empty, end_of_text, no_lines, lines, skip_blanks, after_blanks, read_line, keep, read_lines, field_at}
-use Rattle.rules.proofs.TableLaws.{Sorted}
+use Rattle.rules.specs.Lines.{File, Item, Line, empty, no_lines, lines, skip_blanks, after_blanks, read_line, keep, read_lines, field_at}
 use Rattle.answers.specs.declared.Answer.{Answer}
 use Rattle.answers.specs.Tells.{Tells}
 use Rattle.tokens.specs.Entries.{decode}
@@ -23,16 +19,14 @@ use Rattle.scan.specs.Stores.{puts}
 use Rattle.scan.proofs.Lists.{length_part}
 use Rattle.scan.proofs.Stores.{length-puts, get_or-puts-below, get_or-puts-above, get_or-stored, drop-puts, drop-stored}
 use Rattle.tokens.proofs.TokenLaws.{token_end, decode-puts, kinds-puts}
-use Rattle.workspace.specs.Map.{keys_from, starts_of, ends_of, variables_from, field_in, field_of_entry, Room}
+use Rattle.workspace.specs.Map.{keys_from, starts_of, ends_of, variables_from, field_in, field_of_entry}
 use Rattle.fields.proofs.Bits.{marks-none}
 use Rattle.lines.specs.Line.{EndsLine, line_at}
 use Rattle.lines.proofs.Starts.{line-newline, line-last}
 use Rattle.parser.specs.declared.Progress.{Progress}
 use Rattle.parser.specs.declared.Step.{Step}
-use Rattle.parser.specs.declared.Step.TheVariants as Step
 use Rattle.parser.specs.declared.Parsed.{Parsed}
-use Rattle.parser.specs.declared.Parsed.TheVariants as Parsed
-use Rattle.parser.specs.Parse.{EntryWithin, Within, Fresh, Ready, Held, past, Takes, Steps, NoFields, Parsable, FileHeld, Parses}
+use Rattle.parser.specs.Parse.{Within, Ready, Held, past, Takes, Steps, NoFields, Parsable, FileHeld, Parses}
 use Rattle.parser.proofs.Frames.{Frame, all_map, variables-same, variable-within, texts-same, field-same, entry-within, fresh-same}
 
 -- the token past a line

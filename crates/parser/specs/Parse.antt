@@ -1,5 +1,5 @@
 -- What reading lines leaves in the workspace, and what it answers. Assumes nothing.
-use Rattle.std.specs.Prelude.{ℕ, zero, suc, ◌+◌, ◌*◌, ◌/◌, ◌^◌, ◌≤◌, ◌<◌, ◌≡◌, Bool, true, false, List, [], ◌∷◌, ltb, length, get_or, drop, set}
+use Rattle.std.specs.Prelude.{ℕ, zero, suc, ◌+◌, ◌*◌, ◌/◌, ◌^◌, ◌≤◌, ◌<◌, ◌≡◌, true, false, List, ltb, length, get_or, drop, set}
 use Rattle.std.proofs.Math.Option.{some}
 use Rattle.std.specs.Int.Bits.{bit_or}
 use Rattle.rules.specs.Bytes.{pick}
@@ -20,9 +20,7 @@ use Rattle.lines.specs.Line.{EndsLine, Stands}
 use Rattle.lines.specs.Rows.{RowWithin}
 use Rattle.parser.specs.declared.Progress.{Progress}
 use Rattle.parser.specs.declared.Step.{Step}
-use Rattle.parser.specs.declared.Step.TheVariants as Step
 use Rattle.parser.specs.declared.Parsed.{Parsed}
-use Rattle.parser.specs.declared.Parsed.TheVariants as Parsed
 
 -- the answer has this number, this value, the name of this token, and no second name
 pub record Says (a : Answer) (number : Number) (value : ℕ) (t : Token) : Type 0 where

@@ -1,4 +1,6 @@
 // From tokens to variables, fields and arguments (document 01, "Lines"; upstream's parser), with the refusals 7 to 14 in the document's order.
+#![tactic(auto)]
+
 ghost use Rattle.std.specs.Prelude.{◌≡◌, List, ◌+◌, ◌*◌, ◌≤◌, ◌<◌, length, drop};
 ghost use Rattle.rules.specs.Bytes.{all};
 ghost use Rattle.rules.specs.Tokens.{Token, no_name, shown_name};

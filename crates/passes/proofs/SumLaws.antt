@@ -10,8 +10,6 @@ use lib.ListN.{length, get_or, take, drop, length-take, length-drop}
 use borrow.Author.Tests.{eq-eqb, ne_eqb, lt-ltb, le-ltb}
 use Rattle.rules.specs.Bytes.{pick}
 use Rattle.rules.specs.Tokens.{token, is_a, variable_kind}
-use Rattle.rules.specs.Variables.{text}
-use Rattle.rules.proofs.Lengths.{Sum}
 use Rattle.tokens.specs.Entries.{decode, token_at, kind_at, entry_at, from_entry}
 use Rattle.tokens.proofs.TokenLaws.{kind-at, token-by}
 use Rattle.workspace.specs.Map.{ranks_of, lengths_of}

@@ -1,4 +1,6 @@
 // The passes on lengths (resolve_variables of upstream): which variables get a value, and how long each is.
+#![tactic(auto)]
+
 ghost use Rattle.std.specs.Prelude.{◌≡◌};
 ghost use Rattle.workspace.specs.Map.{Room};
 ghost use Rattle.passes.specs.Visits.{State};

@@ -20,7 +20,7 @@ pub enum Visited {
 }
 
 // All variables have values; or the value of this one is too large; or this one, the smallest without a value, lacks one at this token.
-#[derive(Drop)]
+#[derive(Clone, Copy)]
 pub enum Settled {
     Resolved,
     TooLarge(usize),

@@ -18,7 +18,6 @@ use Rattle.scan.proofs.Stores.{overwrite-cover}
 use Rattle.answers.specs.declared.Number.{Number}
 use Rattle.answers.specs.declared.Number.TheVariants as N
 use Rattle.answers.specs.declared.Name.{Name}
-use Rattle.answers.specs.declared.Detail.{Detail}
 use Rattle.answers.specs.declared.Answer.{Answer}
 use Rattle.answers.specs.Tells.{number_of, Names, Tells}
 use Rattle.pkg_config.specs.Call.{lent, Reads, ReadsText}

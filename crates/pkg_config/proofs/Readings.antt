@@ -30,7 +30,7 @@ use Rattle.lexer.specs.declared.LexError.TheVariants as E
 use Rattle.lexer.specs.declared.Lexed.{Lexed}
 use Rattle.lexer.specs.declared.Lexed.TheVariants as L
 use Rattle.lexer.proofs.Outcomes.{lexed-back, count_fits, long_ws, when-tokens, when-refused}
-use Rattle.workspace.specs.Map.{Room, keys_of, file_in}
+use Rattle.workspace.specs.Map.{keys_of, file_in}
 use Rattle.workspace.proofs.Files.{held-file}
 use Rattle.workspace.proofs.Links.{keys_length}
 use Rattle.names.proofs.Places.{all-at}

@@ -13,7 +13,7 @@ use Rattle.rules.specs.Tokens.{Token, token, no_name}
 use Rattle.rules.specs.Numbers as Rules
 use Rattle.rules.specs.Numbers.{Refusal, in_variable, in_field, undefined_variable, content_too_large, number, detail, details, refusal_number, refusal_detail, field_of, variable_of, Result, refused, ok, ◌>>=◌}
 use Rattle.rules.specs.Lines.{Assignment, Field, File}
-use Rattle.rules.specs.Variables.{Found, Resolved, resolved, resolve, key_at, resolve_variables}
+use Rattle.rules.specs.Variables.{Found, resolved, resolve, key_at, resolve_variables}
 use Rattle.rules.specs.Fields.{Present, resolve_fields}
 use Rattle.rules.specs.Records.{records}
 use Rattle.rules.specs.Reading.{records_of_file}

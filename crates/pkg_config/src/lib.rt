@@ -1,4 +1,6 @@
 // The reader (document 01, "Buffers" and "Numbers returned"; upstream's types.rs and lib.rs): one call on lent buffers.
+#![tactic(auto)]
+
 mod file;
 
 ghost use Rattle.std.specs.Prelude.{◌≡◌, ◌+◌, ◌*◌, ◌≤◌, length};

@@ -1,19 +1,20 @@
-// A reader that holds the text and its own place (document 01, "What must change shape"): thin functions over the covered `step_at` and `end_at`.
-// A caller with plain parameters calls `first` or the covered functions, and needs no walk.
+// A reader that holds the text and its own place (document 01, "What must change shape"): thin functions over `step_at` and `end_at`.
+#![tactic(auto)]
+
 ghost use Rattle.std.specs.Prelude.{◌≡◌};
 ghost use Rattle.reader_walk.specs.Steps.{step_at, end_at};
 
 use lexer::lexeme::one_lexeme_at;
 use tokens::TokenKind;
 
-#[derive(Drop)]
+#[derive(Clone, Copy)]
 pub struct Reader<'a> {
     pub text: &'a [u8],
     pub at: usize,
 }
 
 // What stands at a place of the text.
-#[derive(Drop)]
+#[derive(Clone, Copy)]
 pub enum Step {
     // a lexeme: its kind, and the place past it
     Lexeme(u32, usize),
@@ -22,6 +23,7 @@ pub enum Step {
     End,
 }
 
+#[tactic(auto, unfolding(crate::specs::Steps::step_at, crate::specs::Steps::told, rules::specs::Bytes::pick, lexer::specs::Pieces::shown))]
 pub fn step_at(s: &[u8], at: usize) -> Step
     ensures { result ≡ step_at s.now at }
 {
@@ -38,6 +40,7 @@ pub fn step_at(s: &[u8], at: usize) -> Step
 }
 
 // The place past what stands there; where nothing can be passed, the same place.
+#[tactic(auto, unfolding(crate::specs::Steps::end_at, crate::specs::Steps::end_of))]
 pub fn end_at(s: &[u8], at: usize) -> usize
     ensures { result ≡ end_at s.now at }
 {
@@ -50,7 +53,8 @@ pub fn end_at(s: &[u8], at: usize) -> usize
 }
 
 pub fn new<'a>(text: &'a [u8]) -> Reader<'a>
-    ensures { (result.text ≡ text.entry) × (result.at ≡ 0) }
+    ensures same_text { result.text ≡ text.entry }
+    ensures at_start { result.at ≡ 0 }
 {
     Reader { text, at: 0 }
 }
@@ -69,7 +73,8 @@ pub fn peek<'a>(r: Reader<'a>) -> Step
 
 // The reader past what it shows.
 pub fn after<'a>(r: Reader<'a>) -> Reader<'a>
-    ensures { (result.text ≡ r.entry.text) × (result.at ≡ end_at r.entry.text.now r.entry.at) }
+    ensures same_text { result.text ≡ r.entry.text }
+    ensures past { result.at ≡ end_at r.entry.text.now r.entry.at }
 {
     let e = end_at(r.text, r.at);
     Reader {

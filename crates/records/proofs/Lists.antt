@@ -10,10 +10,9 @@ use Rattle.rules.specs.Records.{record_bytes, argument_records}
 use Rattle.scan.specs.Stores.{puts}
 use Rattle.scan.proofs.Stores.{length-puts, puts-puts}
 use Rattle.scan.proofs.Littles.{length-little}
-use Rattle.tokens.specs.Entries.{decode}
-use Rattle.workspace.specs.Map.{Room, ranks_of, lengths_of, pieces_between}
+use Rattle.workspace.specs.Map.{Room}
 use Rattle.writer.specs.Tables.{Tables, tables_in, pieces, value_between}
-use Rattle.writer.specs.Writing.{Ready, Writable, Written}
+use Rattle.writer.specs.Writing.{Writable, Written}
 use Rattle.writer.proofs.Pieces.{tables-same, room-same}
 use Rattle.writer.proofs.Runs.{held_more}
 use Rattle.writer.proofs.Uses.{none_written, bytes-written, and_then, before-written, expanded}

@@ -24,7 +24,7 @@ use Rattle.passes.specs.Sums.{size_at}
 use Rattle.passes.specs.declared.sums.Advance.{Advance}
 use Rattle.passes.specs.declared.sums.Advance.TheVariants as Adv
 use Rattle.passes.proofs.FieldSums as sums
-use Rattle.writer.specs.Tables.{Tables, tables_in, pieces, value, value_between}
+use Rattle.writer.specs.Tables.{Tables, tables_in, pieces, value_between}
 use Rattle.writer.specs.Writing.{Ready}
 use Rattle.writer.proofs.Uses as uses
 use Rattle.records.specs.Contents.{fields_of, values_from, content_at, present_at, presents, Spans}

@@ -1,11 +1,15 @@
 // Reads the fixed list of upstream's answers on standard input (host/oracle/answers/README.md has its form), gives each text to the
 // reader, and compares. Prints a line for each text that differs, then how many texts there are and how many differ.
-ghost use Rattle.std.specs.Prelude.{◌≤◌};
+#![tactic(auto)]
+
+ghost use Rattle.std.specs.Prelude.{◌≤◌, IfOk};
 
 use answers::{Answer, Name};
 use scan::column::part;
 use scan::little::get_little;
 use scan::order::same_bytes;
+use std::io;
+use std::io::{Read, Write};
 
 // What the first byte of an answer says, where it is not the number of a refusal. Records of more than 65,536 bytes do not fit the
 // output: of these the need is compared, and not their sums.
@@ -19,20 +23,24 @@ impl Mark {
 }
 
 // Reads n bytes to the front of a buffer; false where it is shorter, or the input ends before.
-fn fill(buffer: &mut [u8], n: usize) -> bool {
+fn fill<R: Read>(input: &mut R, buffer: &mut [u8], n: usize) -> io::Result<bool> {
     if buffer.len() < n {
-        return false;
+        return Ok(false);
     }
-    io::read_full(0, &mut buffer[0..n]) == n
+    match input.read_exact(&mut buffer[..n]) {
+        Ok(()) => Ok(true),
+        Err(e) if e.kind() == io::ErrorKind::UnexpectedEof => Ok(false),
+        Err(e) => Err(e),
+    }
 }
 
 // A number of 2 or 4 bytes, little-endian; 0 where the input ends before.
-fn read_number(width: usize) -> usize {
+fn read_number<R: Read>(input: &mut R, width: usize) -> io::Result<usize> {
     let mut bytes = [0u8; 8];
-    if fill(&mut bytes, width) {
-        return get_little(&bytes, 0, 4) as usize;
+    if fill(input, &mut bytes, width)? {
+        return Ok(get_little(&bytes, 0, 4) as usize);
     }
-    0
+    Ok(0)
 }
 
 // 2 bytes of length and so many bytes, against a name in the pool.
@@ -93,80 +101,93 @@ fn answers_so(
 }
 
 // The next text of the list, and its answer.
-fn next_is_same(
+fn next_is_same<R: Read>(
+    input: &mut R,
     text: &mut [u8],
     expected: &mut [u8],
     ws: &mut [u32],
     pool: &mut [u8],
     output: &mut [u8],
-) -> bool {
-    let n = read_number(2);
-    if fill(text, n) {
-        let m = read_number(4);
-        if fill(expected, m) {
-            return answers_so(part(text, 0, n), part(expected, 0, m), ws, pool, output);
+) -> io::Result<bool> {
+    let n = read_number(input, 2)?;
+    if fill(input, text, n)? {
+        let m = read_number(input, 4)?;
+        if fill(input, expected, m)? {
+            return Ok(answers_so(part(text, 0, n), part(expected, 0, m), ws, pool, output));
         }
     }
-    false
+    Ok(false)
 }
 
 // 1 where the next text differs, and a line that says so.
-fn difference(
+fn difference<R: Read, W: Write>(
+    input: &mut R,
+    out: &mut W,
     i: usize,
     text: &mut [u8],
     expected: &mut [u8],
     ws: &mut [u32],
     pool: &mut [u8],
     output: &mut [u8],
-) -> usize
-    ensures { result ≤ 1 }
+) -> io::Result<usize>
+    ensures { IfOk result (λ n. n ≤ 1) }
 {
-    if next_is_same(text, expected, ws, pool, output) {
-        return 0;
+    if next_is_same(input, text, expected, ws, pool, output)? {
+        return Ok(0);
     }
-    io::write_all(1, b"differs: ");
-    io::print_decimal(1, i as u64);
-    io::write_all(1, b"\n");
-    1
+    writeln!(out, "differs: {i}")?;
+    Ok(1)
 }
 
-fn differences(
+fn differences<R: Read, W: Write>(
+    input: &mut R,
+    out: &mut W,
     count: usize,
     text: &mut [u8],
     expected: &mut [u8],
     ws: &mut [u32],
     pool: &mut [u8],
     output: &mut [u8],
-) -> usize {
-    let mut i = 0;
+) -> io::Result<usize> {
     let mut found = 0;
-    while i < count {
-        found += difference(i, text, expected, ws, pool, output);
-        i += 1;
+    for i in 0..count {
+        found += difference(input, out, i, text, expected, ws, pool, output)?;
     }
-    found
+    Ok(found)
 }
 
-fn run(text: &mut [u8], expected: &mut [u8], ws: &mut [u32], pool: &mut [u8], output: &mut [u8]) {
-    fill(text, 8);
+fn run<R: Read, W: Write>(
+    input: &mut R,
+    out: &mut W,
+    text: &mut [u8],
+    expected: &mut [u8],
+    ws: &mut [u32],
+    pool: &mut [u8],
+    output: &mut [u8],
+) -> io::Result<()> {
+    fill(input, text, 8)?;
     if same_bytes(part(text, 0, 8), b"cabbage1") {
-        let count = read_number(4);
-        let found = differences(count, text, expected, ws, pool, output);
-        io::print_decimal(1, count as u64);
-        io::write_all(1, b" texts, ");
-        io::print_decimal(1, found as u64);
-        io::write_all(1, b" differences\n");
-        return;
+        let count = read_number(input, 4)?;
+        let found = differences(input, out, count, text, expected, ws, pool, output)?;
+        return writeln!(out, "{count} texts, {found} differences");
     }
-    io::write_all(1, b"not a list\n");
+    writeln!(out, "not a list")
 }
 
 // Room for the longest text, 65,535 bytes: 12 * 65,535 + 64 entries of workspace.
-fn main() {
+fn main(rt: HostRuntime) -> io::Result<()> {
     let mut text = [0u8; 65535];
     let mut expected = [0u8; 65537];
-    let mut ws = [0u32; 786484];
+    let mut ws = vec![in rt.alloc(); 0u32; 786484]?;
     let mut pool = [0u8; 65535];
     let mut output = [0u8; 65536];
-    run(&mut text, &mut expected, &mut ws, &mut pool, &mut output);
+    run(
+        &mut rt.reader(),
+        &mut io::writer(&rt),
+        &mut text,
+        &mut expected,
+        &mut ws,
+        &mut pool,
+        &mut output,
+    )
 }

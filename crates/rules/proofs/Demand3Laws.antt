@@ -15,7 +15,7 @@ use Rattle.rules.specs.Lines.{Part, Assignment, File}
 use Rattle.rules.specs.Reading.{file, records_of_file, reading}
 use Rattle.rules.specs.Variables.{Piece, Found, found_at, rank_of, look_up, rules_of, Resolved, too_large_at, lacks, resolved, resolve}
 use Rattle.rules.specs.Variables.{key_at, resolve_variables}
-use Rattle.rules.specs.Demand3.{At, here, there, Assigned, Joined, Value, HasValue, Refers, Leads, Numbered, Upto, TooLarge, Lacks, Demand3}
+use Rattle.rules.specs.Demand3.{At, Assigned, Joined, Value, HasValue, Refers, Leads, Numbered, Upto, TooLarge, Lacks, Demand3}
 use Rattle.rules.proofs.Ranks as P
 use Rattle.rules.proofs.RanksLaws.{height, height-one, lower}
 use Rattle.rules.proofs.ResolveLaws.{too-large-iff, lacks-iff, numbered, resolve-says}
@@ -59,8 +59,8 @@ module _ (vs : List Assignment) (sorted : Sorted vs) where
 
   pub up : {ps : List Part} {qs : List Piece} {v : List ℕ} → P.Joined rules qs v → Looked vs ps qs → Joined vs ps v
   up P.Joined.nil Looked.nil = Joined.nil
-  up (P.Joined.text d) (Looked.text l) = Joined.text (up d l)
-  up (P.Joined.ref h d f) (Looked.ref q l) = let x = found q h in Joined.reference x.1 (up d x.2) (up f l)
+  up (P.Joined.text d) (Looked.text {ps = ps} l) = Joined.text (up {ps = ps} d l)
+  up (P.Joined.ref h d f) (Looked.ref {ps = ps} q l) = let x = found q h in Joined.reference x.1 (up {ps = x.0.value} d x.2) (up {ps = ps} f l)
 
   -- a name has a value exactly where its place has it
   pub value-down : {key : List ℕ} {j : ℕ} {v : List ℕ} → rank_of key vs ≡ j → Value vs key v → P.Value rules j v

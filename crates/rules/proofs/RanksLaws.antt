@@ -38,6 +38,7 @@ module _ (rules : List (List Piece)) where
   pub lower : {ps : List Piece} {v : List ℕ} {k : ℕ} (d : Joined rules ps v) → Refers ps k
       → (k < length rules) × ((u : List ℕ) × (d' : Joined rules (get_or rules k []) u) × (height d' < height d))
   unfolding height
+  lower {k = k} nil m = elim m [ ]
   lower (Joined.text d) (there m) = lower d m
   lower (Joined.ref {u} h d f) here = (h, (u, d, omega arith))
   lower (Joined.ref h d f) (there m) =

@@ -44,10 +44,10 @@ module _ (rules : List (List Piece)) where
 
   from-bare : {ps qs : List Piece} {v : List ℕ} → Joined (map bare rules) qs v → Bare ps qs → (w : List ℕ) × Joined rules ps w
   from-bare Joined.nil Bare.nil = ([], Joined.nil)
-  from-bare (Joined.text d) (Bare.text {s} b) = let x = from-bare d b in (s ++ x.0, Joined.text x.1)
-  from-bare (Joined.ref {j} h d f) (Bare.ref b) =
-      let x = from-bare d (bare-at rules j) in
-      let y = from-bare f b in
+  from-bare (Joined.text d) (Bare.text {s} {ps = ps} b) = let x = from-bare {ps = ps} d b in (s ++ x.0, Joined.text x.1)
+  from-bare (Joined.ref {j} h d f) (Bare.ref {ps = ps} b) =
+      let x = from-bare {ps = get_or rules j []} d (bare-at rules j) in
+      let y = from-bare {ps = ps} f b in
       (x.0 ++ y.0, Joined.ref (rw length-map at h) x.1 y.1)
 
   -- with no texts nothing is too large

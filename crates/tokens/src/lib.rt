@@ -1,5 +1,7 @@
 // Tokens as workspace and pool hold them: four entries a token, which are its kind, the place of its text in the pool (or its byte), the text's length,
 // and its place in the source. The functions read one token of the first `count`; past the last there is none, and all is 0 or empty.
+#![tactic(auto)]
+
 ghost use Rattle.std.specs.Prelude.{◌≡◌, ◌+◌, ◌*◌, ◌≤◌, ◌<◌, length};
 ghost use Rattle.scan.specs.Stores.{puts};
 ghost use Rattle.tokens.specs.Entries.{decode, token_at, pool_text, kind_at, place_at, source_at, byte_at, entry_at};

@@ -1,4 +1,6 @@
 // Well-formed UTF-8 by the Unicode Standard, section 3.9: Table 3-7, one row of it a line below; and the code point at a place.
+#![tactic(auto)]
+
 ghost use Rattle.std.specs.Prelude.{◌≡◌, ◌+◌, ◌-◌, ◌≤◌, ltb, get_or, drop};
 ghost use Rattle.rules.specs.Bytes.{pick};
 ghost use Rattle.rules.specs.Utf8.{due_after, rows, well_formed, leading, trailing, code_point};

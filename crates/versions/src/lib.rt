@@ -1,5 +1,7 @@
 // Versions compared by runs, and whether a version meets what was asked for (document 02, R-1). Nothing is copied: runs are
 // parts of the lent bytes, and a digit run compares as a number of any length by its digits without leading zeros.
+#![tactic(auto)]
+
 ghost use Rattle.std.specs.Prelude.{◌≡◌, ◌+◌, drop};
 ghost use Rattle.rules.specs.Bytes.{run, within};
 ghost use Rattle.rules.specs.Versions.{value, compare_numbers, compare_run, compare_versions, meets};

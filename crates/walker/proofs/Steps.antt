@@ -13,7 +13,6 @@ use borrow.Author.Tests.{leb-true, leb-false, eqb-true, eq-eqb, ne_eqb}
 use Rattle.rules.specs.Bytes.{pick}
 use Rattle.rules.specs.Variables.{limit}
 use Rattle.rules.specs.Listing as Rules
-use Rattle.walker.specs.declared.Form.{Form}
 use Rattle.walker.specs.declared.Form.TheVariants.{List as AList, Wrong}
 use Rattle.walker.specs.declared.Walk.{Walk}
 use Rattle.walker.specs.declared.Step.{Step}

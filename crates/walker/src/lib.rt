@@ -1,4 +1,6 @@
 // The record form read back, one record at a time (document 01, "Records and listing").
+#![tactic(auto)]
+
 ghost use Rattle.std.specs.Prelude.{◌≡◌, ◌+◌, ◌≤◌, length, take, drop};
 ghost use Rattle.rules.specs.Listing.{form, front, lines_of_records};
 ghost use Rattle.rules.specs.Bytes.{from_little};
@@ -40,7 +42,7 @@ pub enum Form {
 }
 
 // Where a walk over the records stands: the place, the last field's kind, and how many arguments are due.
-#[derive(Drop)]
+#[derive(Clone, Copy)]
 pub struct Walk {
     pub at: usize,
     pub last: u64,

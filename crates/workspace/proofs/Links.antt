@@ -9,7 +9,7 @@ use lib.Seq.{get_or-take, get_or-drop, length-take-le}
 use Rattle.rules.specs.Bytes.{pick}
 use Rattle.rules.specs.Tokens.{Token, is_a, variable_kind, no_name}
 use Rattle.rules.specs.Lines.{as_part, Assignment}
-use Rattle.rules.specs.Variables.{Piece, text, rank_of, look_up, rules_of}
+use Rattle.rules.specs.Variables.{Piece, rank_of, look_up, rules_of}
 use Rattle.tokens.specs.Entries.{decode, token_at}
 use Rattle.tokens.proofs.TokenLaws.{length-decode}
 use Rattle.workspace.specs.Map.{dropped_kind, parts_of, between, parts_between, piece_of, pieces_of, pieces_between, keys_of, starts_of, ends_of, ranks_of, variable_at, variables_from, variables_in, rule_at, rules_in, Looked}

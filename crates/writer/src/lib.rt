@@ -1,5 +1,7 @@
 // Values are written to the output with a stack in the workspace. A variable's value is written out once: its place in the output is remembered, and
 // it is copied from there afterwards. So the cost is that of the parts and of the bytes, however deep the references go.
+#![tactic(auto)]
+
 ghost use Rattle.std.specs.Prelude.{◌≡◌, [], ◌∷◌, ◌+◌, ◌*◌, ◌/◌, ◌%◌, ◌≤◌, ◌<◌, length, replicate};
 ghost use Rattle.scan.specs.Stores.{puts};
 ghost use Rattle.writer.specs.Tables.{tables_in, value_between};

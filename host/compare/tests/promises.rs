@@ -10,12 +10,14 @@ fn root() -> PathBuf {
     Path::new(env!("CARGO_MANIFEST_DIR")).join("../..")
 }
 
-/// All files below a directory.
+/// All files below a directory, but for what `rt` makes in the folders out.
 fn files(directory: &Path, found: &mut Vec<PathBuf>) {
     for entry in fs::read_dir(directory).expect("the directory can be read") {
         let path = entry.expect("the entry can be read").path();
         if path.is_dir() {
-            files(&path, found);
+            if !path.ends_with("out") {
+                files(&path, found);
+            }
         } else {
             found.push(path);
         }

@@ -1,0 +1,12 @@
+-- `lexer::flush_text` meets its contract. Assumes nothing.
+use Rattle.lexer.proofs.Writes.{flush-room, flush-one, flush-put, flush-none, flush-same}
+use Rattle.lexer.proofs.flush_text.Goals as goal
+
+pub put4-requires : goal.put4-requires
+put4-requires c = search flush-room
+
+pub returns-then-start-used : goal.returns-then-start-used
+returns-then-start-used c = (search flush-one, search flush-put)
+
+pub returns : goal.returns
+returns c = (search flush-none, search flush-same)

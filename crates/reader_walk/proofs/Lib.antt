@@ -1,3 +1,0 @@
-pub mod Tells
-pub mod Holding
-pub mod Taking
