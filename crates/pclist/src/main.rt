@@ -49,18 +49,42 @@ fn print_answer<W: Write>(
     }
 }
 
-// "The program prepares 16,384 workspace entries at zero, so 1,360 bytes pass and 1,361 give 2." More bytes are not read.
+// Reads until the buffer is full or the input ends, and tells how many bytes came.
+fn fill<R: Read>(input: &mut R, buffer: &mut [u8]) -> io::Result<usize> {
+    let mut bytes = input.bytes();
+    for i in 0..buffer.len() {
+        match bytes.next() {
+            Some(byte) => buffer[i] = byte?,
+            None => return Ok(i),
+        }
+    }
+    Ok(buffer.len())
+}
+
+fn run<R: Read, W: Write>(
+    input: &mut R,
+    out: &mut W,
+    text: &mut [u8],
+    ws: &mut [u32],
+    pool: &mut [u8],
+    records: &mut [u8],
+    lines: &mut [u8],
+) -> io::Result<()> {
+    let n = fill(input, text)?;
+    print_answer(out, part(text, 0, n), ws, pool, records, lines)
+}
+
+// "The program prepares 16,384 workspace entries at zero, so 1,360 bytes pass and 1,361 give 2."
 fn main(rt: HostRuntime) -> io::Result<()> {
-    let mut text = Vec::new(rt.alloc());
-    rt.reader().take(1361).read_to_end(&mut text)?;
+    let mut text = [0u8; 1361];
     let mut ws = [0u32; 16384];
     let mut pool = [0u8; 1361];
     let mut records = [0u8; 65536];
     let mut lines = [0u8; 65536];
-    let mut out = io::writer(&rt);
-    print_answer(
-        &mut out,
-        &text,
+    run(
+        &mut rt.reader(),
+        &mut io::writer(&rt),
+        &mut text,
         &mut ws,
         &mut pool,
         &mut records,

@@ -156,12 +156,13 @@ fn differences<R: Read, W: Write>(
     Ok(found)
 }
 
-fn run<R: Read, W: Write>(
+// The workspace comes with its length as a parameter: so large an array, as a slice of `main`, would be written out in the proof.
+fn run<const N: usize, R: Read, W: Write>(
     input: &mut R,
     out: &mut W,
     text: &mut [u8],
     expected: &mut [u8],
-    ws: &mut [u32],
+    ws: &mut [u32; N],
     pool: &mut [u8],
     output: &mut [u8],
 ) -> io::Result<()> {
@@ -178,7 +179,7 @@ fn run<R: Read, W: Write>(
 fn main(rt: HostRuntime) -> io::Result<()> {
     let mut text = [0u8; 65535];
     let mut expected = [0u8; 65537];
-    let mut ws = vec![in rt.alloc(); 0u32; 786484]?;
+    let mut ws = [0u32; 786484];
     let mut pool = [0u8; 65535];
     let mut output = [0u8; 65536];
     run(
