@@ -10,7 +10,7 @@ use scan::class::{ByteClass, CLASS, class_by, class_in};
 use tokens::TokenKind;
 
 // A piece of the text: its kind, its own text, which is the `len` bytes from `from` on, and where the next one starts.
-#[derive(Drop)]
+#[derive(Clone, Copy)]
 pub struct Piece {
     pub kind: u32,
     pub from: usize,

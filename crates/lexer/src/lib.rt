@@ -23,7 +23,7 @@ use tokens::TokenKind;
 use utf8::code_point_at;
 
 // Why a text can't be lexed.
-#[derive(Drop)]
+#[derive(Clone, Copy)]
 pub enum LexError {
     MissingCloseVariable,
     // with the code point
@@ -31,7 +31,7 @@ pub enum LexError {
 }
 
 // What lexing answers.
-#[derive(Drop)]
+#[derive(Clone, Copy)]
 pub enum Lexed {
     // the number of tokens, and of bytes in the pool
     Tokens(usize, usize),
@@ -40,7 +40,7 @@ pub enum Lexed {
 }
 
 // What the first pass finds.
-#[derive(Drop)]
+#[derive(Clone, Copy)]
 pub enum Verdict {
     Fine,
     // the first refusal, with the place of the `$`
@@ -141,7 +141,7 @@ fn put_token(
 }
 
 // How many tokens the workspace holds, and how many bytes of text the pool.
-#[derive(Drop)]
+#[derive(Clone, Copy)]
 pub struct Filled {
     pub count: usize,
     pub used: usize,

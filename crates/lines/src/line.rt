@@ -32,7 +32,7 @@ pub fn line_end(ws: &[u32], count: usize, j: usize) -> usize
 }
 
 // How a line starts. WrongStart and WrongAfter have the wrong token, Assigns (`=`) and Gives (`:`) the key token and the value's first.
-#[derive(Drop)]
+#[derive(Clone, Copy)]
 pub enum LineStart {
     Empty,
     WrongStart(usize),

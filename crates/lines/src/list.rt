@@ -11,7 +11,7 @@ ghost use Rattle.lines.specs.Rows.{role_of, is_quote_kind, NoneDropped, Keeps, R
 use tokens::{TokenKind, kind_at};
 
 // What a token does in a list value.
-#[derive(Drop)]
+#[derive(Clone, Copy)]
 pub enum Role {
     Part,
     Splits,
@@ -150,7 +150,7 @@ fn turn(ws: &mut [u32], n: usize, from: usize, end: usize, i: usize, s: ListStat
     }
 }
 
-#[derive(Drop)]
+#[derive(Clone, Copy)]
 pub enum Listed {
     Arguments(usize),
     Open(usize),

@@ -5,7 +5,7 @@ ghost use Rattle.scan.specs.Stores.{puts};
 ghost use Rattle.listing.specs.Shown.{measured, text_of, Fitting};
 
 // How many bytes the lines need; or the bytes are no records in form.
-#[derive(Drop)]
+#[derive(Clone, Copy)]
 pub enum Measured {
     Need(u64),
     Broken,

@@ -15,7 +15,7 @@ use scan::column::cell;
 use scan::order::{Order, compare};
 use tokens::{TokenKind, kind_at, text_at};
 
-#[derive(Drop)]
+#[derive(Clone, Copy)]
 pub enum Insertion {
     // where the keys begin now
     Inserted(usize),
@@ -23,7 +23,7 @@ pub enum Insertion {
 }
 
 // Where a name is among those in byte order.
-#[derive(Drop)]
+#[derive(Clone, Copy)]
 pub enum Place {
     // it is the one of this rank
     Taken(usize),

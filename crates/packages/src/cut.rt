@@ -69,7 +69,7 @@ pub struct Place {
 }
 
 // What stands at a place of a value.
-#[derive(Drop)]
+#[derive(Clone, Copy)]
 pub enum Found {
     Nothing,
     Malformed,

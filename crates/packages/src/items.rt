@@ -25,7 +25,7 @@ impl Kind {
 }
 
 // How many bytes the records need; or the index of the first malformed item.
-#[derive(Drop)]
+#[derive(Clone, Copy)]
 pub enum Measured {
     Need(u64),
     Malformed(u64),

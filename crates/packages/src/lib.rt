@@ -25,7 +25,7 @@ impl Field {
 }
 
 // 0 with the bytes written; 18; 20 with the field and the item's index within it; 17 with the need.
-#[derive(Drop)]
+#[derive(Clone, Copy)]
 pub enum Answer {
     Accepted(u64),
     NotRecords,
@@ -34,7 +34,7 @@ pub enum Answer {
 }
 
 // What the items of both fields need; or the first malformed item, by its field and index.
-#[derive(Drop)]
+#[derive(Clone, Copy)]
 pub enum Both {
     Need(u64),
     Malformed(u64, u64),

@@ -21,7 +21,7 @@ use scan::class::{ByteClass, CLASS, class_in};
 use scan::store::zero_from;
 use tokens::{kind_at, place_at, text_at};
 
-#[derive(Drop)]
+#[derive(Clone, Copy)]
 pub struct Progress {
     // variables stored, and where their keys begin
     pub variables: usize,
@@ -32,13 +32,13 @@ pub struct Progress {
     pub next: usize,
 }
 
-#[derive(Drop)]
+#[derive(Clone, Copy)]
 pub enum Step {
     More(Progress),
     Refused(Answer),
 }
 
-#[derive(Drop)]
+#[derive(Clone, Copy)]
 pub enum Parsed {
     Lines(usize),
     Refused(Answer),

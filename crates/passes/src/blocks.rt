@@ -10,7 +10,7 @@ use crate::visits::{Visited, step};
 use scan::column::cell;
 
 // What a turn does: a sum is above the limit; nothing new; a value is found, and these blocks wait for it.
-#[derive(Drop)]
+#[derive(Clone, Copy)]
 pub enum Turned {
     Over,
     Nothing,

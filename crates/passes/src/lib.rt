@@ -15,7 +15,7 @@ pub mod sums;
 pub mod visits;
 
 // What a pass does: it stops at this variable, whose value is too large; it finds values, and these blocks wait for them; it finds none.
-#[derive(Drop)]
+#[derive(Clone, Copy)]
 pub enum Passed {
     Stopped(usize),
     Found(u32),
@@ -23,7 +23,7 @@ pub enum Passed {
 }
 
 // The answer, and how many passes were made, the last idle one included.
-#[derive(Drop)]
+#[derive(Clone, Copy)]
 pub struct Outcome {
     pub settled: Settled,
     pub passes: usize,

@@ -15,7 +15,7 @@ impl Limit {
 }
 
 // How far a sum came: above the limit; up to this token, which refers to no value, with the sum of those before it; or to the end.
-#[derive(Drop)]
+#[derive(Clone, Copy)]
 pub enum Advance {
     Over,
     Missing(usize, usize),

@@ -11,7 +11,7 @@ use crate::sums::{Advance, sum_on};
 use scan::column::cell;
 
 // What a turn finds: a sum above the limit; a value that was there; a value that lacks, at this token; a new value.
-#[derive(Drop)]
+#[derive(Clone, Copy)]
 pub enum Visited {
     Over,
     Known,

@@ -10,7 +10,7 @@ use passes::sums::{Advance, sum_on};
 use scan::column::cell;
 
 // The bytes that all records need; or the field and the token of a reference without a value; or the field of a value that is too large.
-#[derive(Drop)]
+#[derive(Clone, Copy)]
 pub enum Measured {
     Need(u64),
     Undefined(usize, usize),

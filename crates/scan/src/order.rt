@@ -3,7 +3,7 @@ ghost use Rattle.std.specs.Prelude.{◌≡◌, ltb, length};
 ghost use Rattle.rules.specs.Bytes.{pick, same};
 ghost use Rattle.scan.specs.Orders.{order_of};
 
-#[derive(Drop)]
+#[derive(Clone, Copy)]
 pub enum Order {
     Less,
     Equal,

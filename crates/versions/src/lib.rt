@@ -24,7 +24,7 @@ impl Kind {
 }
 
 // Whether a version meets an operator and a version asked for.
-#[derive(Drop)]
+#[derive(Clone, Copy)]
 pub enum Met {
     Yes,
     No,

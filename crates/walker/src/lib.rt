@@ -27,13 +27,13 @@ impl RecordForm {
 }
 
 // The record at a place: its kind and the length of its payload, where it stands there whole.
-#[derive(Drop)]
+#[derive(Clone, Copy)]
 pub enum Front {
     Whole(u64, usize),
     Broken,
 }
 
-#[derive(Drop)]
+#[derive(Clone, Copy)]
 pub enum Form {
     Argument,
     String,
@@ -63,7 +63,7 @@ impl Walk {
 
 // What stands there, with the walk after it: a value, by its kind and the length of payload; a list, by its kind and
 // count; the end of the records; or bytes that break the form.
-#[derive(Drop)]
+#[derive(Clone, Copy)]
 pub enum Step {
     Value(u64, usize, Walk),
     Count(u64, u32, Walk),
