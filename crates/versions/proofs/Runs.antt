@@ -126,6 +126,9 @@ told-bytes (a ∷ x) (b ∷ y) = go (ltb a b) refl (ltb b a) refl (told-bytes x 
     go false p true q ih = rw (p, q)
     go false p false q ih = rw (p, q) ih
 
+-- the same, for an attribute
+pub ruleset runs_told = (told-bytes)
+
 -- where the leading zeros end
 pub record Zeros (x : List ℕ) (p : ℕ) : Type 0 where
   pub in_text : p ≤ length x

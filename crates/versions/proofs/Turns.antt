@@ -154,6 +154,9 @@ module _ {a b : List ℕ} {i j : ℕ} (l : Left a b i j) where
         let c : n ≡ 1 = omega (arith, kind-small (get_or a i 0), x) in
         rw (runs_here (i + run (passes m) (drop i a)) (j + run (passes n) (drop j b)) refl refl, d, c)
 
+-- what the ends of both versions decide, for an attribute
+pub ruleset at_the_end = (second-left, both_end)
+
 -- a run in each, both of kind k, with their ends
 pub record Both (a b : List ℕ) (i j k e f : ℕ) : Type 0 where
   pub left : Left a b i j

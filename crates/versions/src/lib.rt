@@ -98,6 +98,7 @@ fn compare_numbers(x: &[u8], y: &[u8]) -> Order
 }
 
 // Two runs of one kind.
+#[tactic(auto, using(crate::proofs::Runs::runs_told), unfolding(crate::specs::Kinds::run_of, rules::specs::Bytes::pick, rules::specs::Versions::compare_run))]
 fn compare_runs(kind: u8, x: &[u8], y: &[u8]) -> Order
     requires { WhereDigits kind x.now y.now }
     ensures { result ≡ told (compare_run (run_of kind x.now) (run_of kind y.now)) }
@@ -108,6 +109,7 @@ fn compare_runs(kind: u8, x: &[u8], y: &[u8]) -> Order
     scan::order::compare(x, y)
 }
 
+#[tactic(auto, using(crate::proofs::Turns::at_the_end))]
 pub fn compare(a: &[u8], b: &[u8]) -> Order
     ensures { result ≡ told (compare_versions a.now b.now) }
 {

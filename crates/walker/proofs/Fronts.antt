@@ -88,6 +88,9 @@ whole-front records at kind size e = go (at_front records at)
         let d : n ≡ size = sym (length-take-le n (drop (at + 6) records) (omega (arith, length-drop (at + 6) records))) ∙ b in
         (omega arith, omega arith, rw (a, d) at f)
 
+-- what `front_at` answers, for an attribute
+pub ruleset fronts = (whole-front)
+
 -- what a record may be, test by test
 told : (last due kind : ℕ) (f : Rules.Form) → Rules.form last due kind ≡ f → form_of f ≡ form_of (Rules.form last due kind)
 told last due kind f e = ap form_of (sym e)
@@ -121,6 +124,9 @@ module _ (last due kind : ℕ) (z : due ≤ 0) where
   pub form-high : last < kind → 7 < kind → 10 < kind → Wrong ≡ form_of (Rules.form last due kind)
   unfolding Rules.form form_of is_string
   form-high h k l = rw none-due (told last 0 kind Rules.Form.wrong (rw (lt-ltb last kind h, lt-leb kind 7 k, lt-leb kind 10 l, Rules.form) refl))
+
+-- what a record is, by the tests before it, for an attribute
+pub ruleset forms = (form-argument, form-none, form-low, form-string, form-list, form-high)
 
 form-wide : (last due kind : ℕ) → 11 < kind → Wrong ≡ form_of (Rules.form last due kind)
 form-wide last due kind h = go (ltb 0 due) refl (ltb last kind) refl

@@ -92,6 +92,7 @@ pub fn front_at(records: &[u8], at: usize) -> Front
 }
 
 // What a record of this kind is, after a field of kind `last` with `due` arguments to come.
+#[tactic(auto, using(crate::proofs::Fronts::forms))]
 pub fn form_of(last: u64, due: u32, kind: u64) -> Form
     ensures { result ≡ form_of (form last due kind) }
 {
@@ -122,6 +123,7 @@ fn count_at(records: &[u8], at: usize) -> u32
 }
 
 // A whole record at the walk's place.
+#[tactic(auto, using(crate::proofs::Fronts::less_one), unfolding(crate::specs::Walks::placed_at, rules::specs::Bytes::pick))]
 fn placed(records: &[u8], w: Walk, kind: u64, size: usize) -> Step
     requires { w.at + 6 + size ≤ length records.now }
     ensures { result ≡ placed_at records.now w kind size (form_of (form w.last w.due kind)) }
@@ -146,6 +148,7 @@ fn placed(records: &[u8], w: Walk, kind: u64, size: usize) -> Step
 }
 
 // What stands at the walk's place.
+#[tactic(auto, using(crate::proofs::Fronts::fronts), unfolding(crate::specs::Walks::step_at, rules::specs::Bytes::pick, crate::specs::Walks::fronted_at))]
 pub fn step_at(records: &[u8], w: Walk) -> Step
     ensures { result ≡ step_at records.now w }
 {

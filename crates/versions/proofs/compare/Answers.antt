@@ -1,5 +1,5 @@
 use Rattle.std.proofs.Common.{ℕ, ◌≡◌, ◌∙◌, arith}
-use Rattle.versions.proofs.Turns.{begin, first-left, second-left, both_end, lower-kind, higher-kind, Both, ends, where-digits, decided, turn}
+use Rattle.versions.proofs.Turns.{begin, first-left, lower-kind, higher-kind, Both, ends, where-digits, decided, turn}
 use Rattle.versions.specs.Kinds.{told}
 use Rattle.rules.specs.Versions as Rules
 use Rattle.versions.proofs.compare.Goals as goal
@@ -56,9 +56,3 @@ loop-i-preserved c = turn (both (goal.at.loop-i-preserved c).After-span-f) c.com
 pub returns-in-Greater : goal.returns-in-Greater
 unfolding told
 returns-in-Greater c = decided (both (goal.at.returns-in-Greater c).After-span-f) c.compare_runs-o.ensures Rules.Order.higher c.in-Greater.is (λ z. let y : ◌≡◌ {A = ℕ} 0 1 = cc in omega arith)
-
-pub returns-then-j-b : goal.returns-then-j-b
-returns-then-j-b c = second-left c.loop-i.invariant c.loop-i-test.false c.if-j-b.true
-
-pub returns-else-j-b : goal.returns-else-j-b
-returns-else-j-b c = both_end c.loop-i.invariant c.loop-i-test.false c.if-j-b.false
