@@ -1,13 +1,13 @@
 -- Laws of Table 3-7's rows and of what they make due. Assumes nothing.
 use Prim.Native.Nat.{ℕ, zero, suc, ◌+◌, ◌-◌, ◌≤◌, ◌<◌}
-use mathlib.Core.Path.{◌≡◌, refl, ◌∙◌, ap}
+use mathlib.Core.Path.{◌≡◌, refl, sym, ◌∙◌, ap}
 use mathlib.Core.Bool.{Bool, true, false, ◌&&◌}
 use mathlib.Core.List.{List, [], ◌∷◌, ◌++◌}
 use mathlib.Core.Option.{Option, none, some}
 use native.Mathlib.Omega.{arith}
 use native.Mathlib.Numerals.{add-one}
 use lib.Dec.{eqb, leb}
-use lib.ListN.{length, get_or, drop, replicate}
+use lib.ListN.{length, get_or, take, drop, replicate}
 use lib.Seq.{drop-cons}
 use borrow.Author.Tests.{le-leb, lt-leb, ne_eqb}
 use Rattle.rules.specs.Bytes.{within}
@@ -64,6 +64,11 @@ pub row : (b : ℕ) (front : List (List Range)) (low high : ℕ) (due : List Ran
     → Above b front → low ≤ b → b ≤ high → due_after b (front ++ ((low to high ∷ due) ∷ rest)) ≡ some due
 unfolding due_after
 row b front low high due rest h l k = skip b front ((low to high ∷ due) ∷ rest) h ∙ rw (in-range low high b l k, due_after)
+
+-- the row of characters of two bytes
+pub two_byte_row : (b : ℕ) → 0xC2 ≤ b → b ≤ 0xDF → due_of (Bytes 1 0x80 0xBF) ≡ due_after b rows
+unfolding due_of ranges rows ◌to◌
+two_byte_row b l h = sym (row b (take 1 rows) 0xC2 0xDF (ranges 1 0x80 0xBF) (drop 2 rows) (omega arith) l h)
 
 pub rest-ranges : (count : ℕ) → replicate count (0x80 to 0xBF) ≡ ranges count 0x80 0xBF
 unfolding ranges

@@ -14,6 +14,7 @@ enum Due {
 }
 
 // Table 3-7: what is due after a first byte.
+#[tactic(auto, using(crate::proofs::Rows::two_byte_row))]
 fn row_of(b: u8) -> Due
     ensures { due_of result ≡ due_after b rows }
 {
@@ -92,6 +93,7 @@ fn goes_by_rows(text: &[u8]) -> bool
 }
 
 // A text of the table's first row alone, which is ASCII, is found so by its highest byte.
+#[tactic(auto, using(crate::proofs::Ascii::is_ascii))]
 pub fn is_well_formed(text: &[u8]) -> bool
     ensures { result ≡ well_formed text.now }
 {

@@ -25,10 +25,6 @@ pub returns-in-0-to-127 : goal.returns-in-0-to-127
 unfolding due_of ranges rows ◌to◌
 returns-in-0-to-127 c = sym (row c.args.b (take 0 rows) 0x00 0x7F (ranges 0 0x80 0xBF) (drop 1 rows) (omega arith) (omega arith) (omega arith))
 
-pub returns-in-194-to-223 : goal.returns-in-194-to-223
-unfolding due_of ranges rows ◌to◌
-returns-in-194-to-223 c = sym (row c.args.b (take 1 rows) 0xC2 0xDF (ranges 1 0x80 0xBF) (drop 2 rows) (omega arith) (omega arith) (omega arith))
-
 pub returns-in-225-to-236 : goal.returns-in-225-to-236
 unfolding due_of ranges rows ◌to◌
 returns-in-225-to-236 c = sym (row c.args.b (take 3 rows) 0xE1 0xEC (ranges 2 0x80 0xBF) (drop 4 rows) (omega arith) (omega arith) (omega arith))
