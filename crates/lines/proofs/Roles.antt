@@ -60,6 +60,9 @@ module _ (kind next quote : ℕ) (t : Token) (ts : List Token) (e : t.kind ≡ k
     unfolding role_inside is_a pick
     inside-part k = rw (e, ne_eqb kind quote h, ne_eqb kind backslash_kind k)
 
+-- the roles inside them, for an attribute
+pub ruleset inside = (inside-quote, inside-escape, inside-other, inside-part)
+
 -- the kind of the next token
 quote-not-zero : (quote : ℕ) → is_quote_kind quote ≡ true → quote ≡ 0 → ⊥
 quote-not-zero quote h z = let e : is_quote_kind quote ≡ false = rw z in false-true e h

@@ -45,6 +45,7 @@ fn role_outside(kind: u32) -> Role
 }
 
 // Inside quotes of the kind `quote`; `next` is the kind of the next token.
+#[tactic(auto, using(crate::proofs::Roles::inside))]
 fn role_inside(kind: u32, next: u32, quote: u32) -> Role
     ensures { (t : Token) (ts : List Token) → t.kind ≡ kind → next_is quote ts ≡ eqb next quote → role_of result ≡ role_inside quote t ts }
 {

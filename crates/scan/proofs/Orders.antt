@@ -143,6 +143,9 @@ module _ {a b : List ℕ} {end i : ℕ} (C : Comparing a b end i) where
     unfolding order_of
     equal-at-end l m = rw (drop_of_length-le a {i = i} (omega (arith, end-above l)), drop_of_length-le b {i = i} (omega (arith, end-above l))) at C.same
 
+-- what the lengths decide where no byte differs, for an attribute
+pub ruleset at_the_end = (less-at-end, greater-at-end, equal-at-end)
+
 -- bytes of other lengths are not the same
 pub other_length : (a b : List ℕ) → (length a ≡ length b → ⊥) → false ≡ same a b
 other_length a b n = go (same a b) refl

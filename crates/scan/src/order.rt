@@ -17,6 +17,7 @@ fn common_end(a: &[u8], b: &[u8]) -> usize
     if a.len() < b.len() { a.len() } else { b.len() }
 }
 
+#[tactic(auto, using(crate::proofs::Orders::at_the_end))]
 pub fn compare(a: &[u8], b: &[u8]) -> Order
     ensures { result ≡ order_of a.now b.now }
 {

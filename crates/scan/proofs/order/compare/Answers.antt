@@ -1,5 +1,5 @@
 use Rattle.std.proofs.Common.{refl, arith}
-use Rattle.scan.proofs.Orders.{end_fits, same-bytes-here, less-here, greater-here, less-at-end, greater-at-end, equal-at-end}
+use Rattle.scan.proofs.Orders.{end_fits, same-bytes-here, less-here, greater-here}
 use Rattle.scan.proofs.order.compare.Goals as goal
 
 pub loop-i-init : goal.loop-i-init
@@ -19,12 +19,3 @@ returns-then-x-y-2 c = less-here c.loop-i.invariant c.loop-i-test.true c.if-x-y-
 
 pub returns-else-x-y-2 : goal.returns-else-x-y-2
 returns-else-x-y-2 c = greater-here c.loop-i.invariant c.loop-i-test.true (omega (arith, c.if-x-y-2.false, c.if-x-y.false))
-
-pub returns-then-a-b : goal.returns-then-a-b
-returns-then-a-b c = less-at-end c.loop-i.invariant c.loop-i-test.false c.if-a-b.true
-
-pub returns-then-b-a : goal.returns-then-b-a
-returns-then-b-a c = greater-at-end c.loop-i.invariant c.loop-i-test.false c.if-b-a.true
-
-pub returns-else-b-a : goal.returns-else-b-a
-returns-else-b-a c = equal-at-end c.loop-i.invariant c.loop-i-test.false c.if-a-b.false c.if-b-a.false
