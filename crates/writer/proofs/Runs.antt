@@ -497,3 +497,6 @@ module _ {n count v : ℕ} {pool : List ℕ} {t : Tables} {ws₀ F : List ℕ} {
 pub done : {n count v : ℕ} {pool : List ℕ} {t : Tables} {ws₀ out₀ : List ℕ} {at₀ : ℕ} {bs ws out : List ℕ} {top i e owner at : ℕ}
     → Run n count v pool t ws₀ (puts out₀ at₀ bs) at₀ (at₀ + length bs) ws out top i e owner at → e ≤ i → top ≡ 12 * n → Written n v t ws₀ out₀ at₀ bs ws out at
 done R h m = record { moved = at-stop R h m; bytes = out-done R h m; apart = R.apart; remembered = rw (out-done R h m) R.remembered; recent = R.recent }
+
+-- how a turn goes past a token that is dropped, for an attribute
+pub ruleset dropped_turn = (go-dropped)

@@ -53,6 +53,7 @@ fn push(ws: &mut [u32], at: usize, next: usize, end: usize, owner: usize)
 
 // The value of the tokens from `from` up to `to` goes to the output from place `at` on. Returns the place past it. The tokens from `next` up to `end`
 // are left of the value of the name of rank `owner`; it is v for the value asked for, which is no name's.
+#[tactic(auto, using(crate::proofs::Runs::dropped_turn), unfolding(crate::proofs::Turns::turns))]
 pub fn write_value(
     ws: &mut [u32],
     pool: &[u8],

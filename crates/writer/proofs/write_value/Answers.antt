@@ -1,6 +1,6 @@
 use Rattle.std.proofs.Common.{arith, ◌+◌, ◌-◌, ◌<◌, ◌≤◌}
 use Rattle.scan.proofs.Stores.{length-puts}
-use Rattle.writer.proofs.Runs.{index-small, less-front, go-dropped, text-fits, go-text, place-in, go-skip, copy-fits, copy_more, go-copy, three-more, frame_small, less-entered, go-entered, frame-in, owner-in, place-small, less_pop, go-pop, done}
+use Rattle.writer.proofs.Runs.{index-small, less-front, text-fits, go-text, place-in, go-skip, copy-fits, copy_more, go-copy, three-more, frame_small, less-entered, go-entered, frame-in, owner-in, place-small, less_pop, go-pop, done}
 use Rattle.writer.proofs.Sounds.{start}
 use Rattle.writer.proofs.write_value.Goals as goal
 use Rattle.writer.proofs.write_value.Goals.{Else-q-eq0}
@@ -84,23 +84,8 @@ loop-next-smaller-else-q-eq0 c = let R = c.loop-next.invariant in let h = c.if-n
 pub loop-next-preserved-else-q-eq0 : goal.loop-next-preserved-else-q-eq0
 loop-next-preserved-else-q-eq0 c = let at-copy-within = c in let at-if4 = at-copy-within in let at_place = at-if4 in let at-cell2 = at_place in let at-cell = at-cell2 in let at-if2 = at-cell in let at-kind-at = at-if2 in let at-if1 = at-kind-at in let at-loop = at-if1 in let R = at-loop.loop-next.invariant in let h = at-if1.if-next-end.true in go-copy R h _ at-kind-at.kind_at-kind.ensures at-if2.if-kind-eq-VARIABLE.true _ at-cell.cell-j.ensures _ at-cell2.cell-size.ensures _ at_place.place-q.ensures at-if4.if-q-eq0.false _ at-copy-within.copy_within.ensures
 
-pub overflow_add-next-then-kind-eq-DROPPED : goal.overflow_add-next-then-kind-eq-DROPPED
-overflow_add-next-then-kind-eq-DROPPED c = let R = c.loop-next.invariant in let h = c.if-next-end.true in omega (arith, index-small R h)
-
-pub loop-next-smaller-then-kind-eq-DROPPED : goal.loop-next-smaller-then-kind-eq-DROPPED
-loop-next-smaller-then-kind-eq-DROPPED c = let R = c.loop-next.invariant in let h = c.if-next-end.true in less-front R h
-
-pub loop-next-preserved-then-kind-eq-DROPPED : goal.loop-next-preserved-then-kind-eq-DROPPED
-loop-next-preserved-then-kind-eq-DROPPED c = let R = c.loop-next.invariant in let h = c.if-next-end.true in go-dropped R h _ c.kind_at-kind.ensures c.if-kind-eq-DROPPED.true
-
 pub copy_text-p-requires : goal.copy_text-p-requires
-copy_text-p-requires c = let R = c.loop-next.invariant in let h = c.if-next-end.true in (omega (arith, R.room.tokens, R.room.room), text-fits R h _ c.kind_at-kind.ensures c.if-kind-eq-VARIABLE.false c.if-kind-eq-DROPPED.false)
-
-pub overflow_add-next-else-kind-eq-DROPPED : goal.overflow_add-next-else-kind-eq-DROPPED
-overflow_add-next-else-kind-eq-DROPPED c = let R = c.loop-next.invariant in let h = c.if-next-end.true in omega (arith, index-small R h)
-
-pub loop-next-smaller-else-kind-eq-DROPPED : goal.loop-next-smaller-else-kind-eq-DROPPED
-loop-next-smaller-else-kind-eq-DROPPED c = let R = c.loop-next.invariant in let h = c.if-next-end.true in less-front R h
+copy_text-p-requires c = let R = c.loop-next.invariant in let h = c.if-next-end.true in (omega (arith, R.room.tokens, R.room.room), search text-fits)
 
 pub loop-next-preserved-else-kind-eq-DROPPED : goal.loop-next-preserved-else-kind-eq-DROPPED
 loop-next-preserved-else-kind-eq-DROPPED c = let at-copy-text = c in let at-if5 = at-copy-text in let at-if2 = at-if5 in let at-kind-at = at-if2 in let at-if1 = at-kind-at in let at-loop = at-if1 in let R = at-loop.loop-next.invariant in let h = at-if1.if-next-end.true in go-text R h _ at-kind-at.kind_at-kind.ensures at-if2.if-kind-eq-VARIABLE.false at-if5.if-kind-eq-DROPPED.false _ _ at-copy-text.copy_text-p.ensures
