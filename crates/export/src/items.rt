@@ -7,7 +7,7 @@ use packages::{Answer, packages};
 use scan::little::put_little;
 
 // The sizes of this call.
-#[derive(Drop)]
+#[derive(Clone, Copy)]
 pub struct Room;
 
 impl Room {

@@ -14,7 +14,7 @@ use scan::little::put_little;
 pub mod version_calls;
 
 // The sizes of the exported calls.
-#[derive(Drop)]
+#[derive(Clone, Copy)]
 pub struct Size;
 
 impl Size {

@@ -8,7 +8,7 @@ ghost use Rattle.fields.specs.Seen.{field_number, bit_at};
 
 use scan::order::same_bytes;
 
-#[derive(Drop)]
+#[derive(Clone, Copy)]
 pub struct Limit;
 
 impl Limit {
@@ -16,7 +16,7 @@ impl Limit {
     pub const TEXT: usize = 65535;
 }
 
-#[derive(Drop)]
+#[derive(Clone, Copy)]
 pub struct Field;
 
 impl Field {
@@ -88,7 +88,7 @@ impl Field {
 }
 
 // "The fields already seen are kept as ten bits, one for each field number."
-#[derive(Drop)]
+#[derive(Clone, Copy)]
 pub struct Seen;
 
 impl Seen {

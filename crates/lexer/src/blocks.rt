@@ -4,7 +4,7 @@ ghost use Rattle.std.specs.Prelude.{◌≡◌, ◌+◌, ◌≤◌, length, drop}
 ghost use Rattle.rules.specs.Bytes.{run};
 ghost use Rattle.lexer.specs.Marks.{one, line_marks, text_marks, dollar_marks, marks_of, marks_over, unmarked, OnRun};
 
-#[derive(Drop)]
+#[derive(Clone, Copy)]
 pub struct Block;
 
 impl Block {
@@ -16,7 +16,7 @@ impl Block {
 }
 
 // The bytes that are looked for.
-#[derive(Drop)]
+#[derive(Clone, Copy)]
 pub struct Seek;
 
 impl Seek {

@@ -5,7 +5,7 @@ ghost use Rattle.rules.specs.Packages.{is_blank, is_separator, is_word, starts_w
 ghost use Rattle.packages.specs.Cuts.{test_of, Gives};
 
 // The bytes that separate items or stand around an operator, and the operators' own.
-#[derive(Drop)]
+#[derive(Clone, Copy)]
 pub struct Sign;
 
 impl Sign {
@@ -25,7 +25,7 @@ impl Sign {
 }
 
 // The operators by document 02's numbers.
-#[derive(Drop)]
+#[derive(Clone, Copy)]
 pub struct Operator;
 
 impl Operator {

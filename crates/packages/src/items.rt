@@ -13,7 +13,7 @@ use scan::little::put_little;
 use scan::store::copy;
 
 // The kinds of an item's records.
-#[derive(Drop)]
+#[derive(Clone, Copy)]
 pub struct Kind;
 
 impl Kind {

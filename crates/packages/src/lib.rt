@@ -15,7 +15,7 @@ use scan::column::part;
 use walker::{Front, RecordForm, front_at, is_records};
 
 // The fields that are read as items.
-#[derive(Drop)]
+#[derive(Clone, Copy)]
 pub struct Field;
 
 impl Field {

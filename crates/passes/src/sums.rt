@@ -7,7 +7,7 @@ use scan::column::cell;
 use tokens::{TokenKind, kind_at, length_at};
 
 // MAX_TEMPLATE_SIZE of upstream.
-#[derive(Drop)]
+#[derive(Clone, Copy)]
 pub struct Limit;
 
 impl Limit {

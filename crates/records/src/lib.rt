@@ -5,7 +5,7 @@ pub mod measure;
 pub mod write;
 
 // The kinds of records: fields by number, and arguments.
-#[derive(Drop)]
+#[derive(Clone, Copy)]
 pub struct RecordKind;
 
 impl RecordKind {

@@ -13,7 +13,7 @@ use std::io::{Read, Write};
 
 // What the first byte of an answer says, where it is not the number of a refusal. Records of more than 65,536 bytes do not fit the
 // output: of these the need is compared, and not their sums.
-#[derive(Drop)]
+#[derive(Clone, Copy)]
 struct Mark {}
 
 impl Mark {

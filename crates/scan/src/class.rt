@@ -4,7 +4,7 @@ ghost use Rattle.rules.specs.Lexing.{class, is_identifier};
 ghost use Rattle.scan.specs.Classes.{class_number, class_at, ClassTable};
 
 // The numbers of the classes. 3 to 9 are the kinds of the tokens that such a byte makes.
-#[derive(Drop)]
+#[derive(Clone, Copy)]
 pub struct ByteClass;
 
 impl ByteClass {

@@ -10,7 +10,7 @@ use scan::column::part;
 use scan::store::copy;
 
 // The kinds of tokens (document 01, "Lexing").
-#[derive(Drop)]
+#[derive(Clone, Copy)]
 pub struct TokenKind;
 
 impl TokenKind {

@@ -7,7 +7,7 @@ ghost use Rattle.rules.specs.Utf8.{due_after, rows, well_formed, leading, traili
 ghost use Rattle.utf8.specs.Dues.{ranges, due_of, after, highest_from};
 
 // What is due after a byte: so many bytes, the first of them from the second number to the third and the others from 0x80 to 0xBF. Or no text goes on so.
-#[derive(Drop)]
+#[derive(Clone, Copy)]
 enum Due {
     Bytes(u8, u8, u8),
     Never,

@@ -10,7 +10,7 @@ ghost use Rattle.versions.specs.Kinds.{kind_of, passes, run_of, AreDigits, Where
 use scan::order::Order;
 
 // The kinds of bytes, so that a run of a higher kind is above one of a lower; and the leading zeros of a digit run.
-#[derive(Drop)]
+#[derive(Clone, Copy)]
 pub struct Kind;
 
 impl Kind {

@@ -6,7 +6,7 @@ ghost use Rattle.rules.specs.Listing.{form, front, lines_of_records};
 ghost use Rattle.rules.specs.Bytes.{from_little};
 ghost use Rattle.walker.specs.Walks.{front_of, form_of, placed_at, step_at, is_some};
 
-#[derive(Drop)]
+#[derive(Clone, Copy)]
 pub struct RecordForm;
 
 impl RecordForm {
