@@ -24,9 +24,9 @@ fn files(directory: &Path, found: &mut Vec<PathBuf>) {
     }
 }
 
-/// The words of a text, where `-`, `_` and `′` belong to a word.
+/// The words of a text, where `-`, `_` and `'` belong to a word.
 fn words(text: &str) -> impl Iterator<Item = &str> {
-    text.split(|c: char| !(c.is_alphanumeric() || "-_′".contains(c))).filter(|word| !word.is_empty())
+    text.split(|c: char| !(c.is_alphanumeric() || "-_'".contains(c))).filter(|word| !word.is_empty())
 }
 
 /// The words of all sources of the crates.

@@ -1,4 +1,4 @@
--- `replay::differences` meets its contract: no more differ than were read. Assumes nothing.
+-- In `replay::differences` no more texts differ than were read, so that the count fits. Assumes nothing.
 use Rattle.std.proofs.Common.{◌≤◌}
 use Rattle.replay.proofs.differences.Given as goal
 
