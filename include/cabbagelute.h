@@ -1,7 +1,7 @@
 /*
  * Cabbagelute: a proved reader of pkg-config .pc files, for C callers.
  *
- * Link with libexport.a, which `rt lib` in crates/export writes to crates/export/out/ (x86-64 of the level x86-64-v2, Linux).
+ * Link with libexport.a, which `host/archive` writes to target/staticlib/ (x86-64 of the level x86-64-v2, Linux).
  *
  * Every call ends with an answer, for all bytes and all buffers. Each buffer is a pointer and its length; `workspace_len`
  * counts entries of 32 bits. No two of the buffers may overlap, and none may be null (a length of 0 is fine with any

@@ -6,7 +6,7 @@ fn main() {
     println!("cargo::rerun-if-env-changed=CABBAGELUTE_LIB_DIR");
     let directory = match std::env::var_os("CABBAGELUTE_LIB_DIR") {
         Some(directory) => PathBuf::from(directory),
-        None => PathBuf::from(env!("CARGO_MANIFEST_DIR")).join("../../crates/export/out"),
+        None => PathBuf::from(env!("CARGO_MANIFEST_DIR")).join("../../target/staticlib"),
     };
     let archive = directory.join("libexport.a");
     println!("cargo::rerun-if-changed={}", archive.display());
@@ -15,7 +15,7 @@ fn main() {
     }
     if !archive.is_file() {
         println!(
-            "cargo::error=there is no {}: run `rt lib` in crates/export, or name the \
+            "cargo::error=there is no {}: run `host/archive`, or name the \
              directory that has libexport.a in CABBAGELUTE_LIB_DIR",
             archive.display()
         );

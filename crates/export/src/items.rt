@@ -55,8 +55,7 @@ fn put_told(detail: &mut [u8], t: Told)
     put_little(detail, 16, 8, t.index);
 }
 
-#[unsafe(no_mangle)]
-pub extern "C" fn cabbagelute_packages(records: &[u8], output: &mut [u8], detail: &mut [u8]) -> u32
+pub fn cabbagelute_packages(records: &[u8], output: &mut [u8], detail: &mut [u8]) -> u32
     ensures { ExportsPackages records.now output.old detail.old output.new detail.new result }
 {
     if detail.len() < Room::DETAIL {

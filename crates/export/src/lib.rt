@@ -43,8 +43,7 @@ fn put_detail(detail: &mut [u8], a: Answer)
 }
 
 // With a lent workspace, counted in entries of 32 bits.
-#[unsafe(no_mangle)]
-pub extern "C" fn cabbagelute_read_in(
+pub fn cabbagelute_read_in(
     text: &[u8],
     workspace: &mut [u32],
     pool: &mut [u8],
@@ -78,8 +77,7 @@ fn read_with(
 }
 
 // With a workspace of its own: 16,384 entries, so texts of up to 1,360 bytes.
-#[unsafe(no_mangle)]
-pub extern "C" fn cabbagelute_read(
+pub fn cabbagelute_read(
     text: &[u8],
     pool: &mut [u8],
     output: &mut [u8],

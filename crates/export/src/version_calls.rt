@@ -6,8 +6,7 @@ use scan::order::Order;
 use versions::Met;
 
 // 0 equal, 1 the first is lower, 2 the first is higher.
-#[unsafe(no_mangle)]
-pub extern "C" fn cabbagelute_compare_versions(a: &[u8], b: &[u8]) -> u32
+pub fn cabbagelute_compare_versions(a: &[u8], b: &[u8]) -> u32
     ensures { result ≡ order_number (compare_versions a.now b.now) }
 {
     let o = versions::compare(a, b);
@@ -19,8 +18,7 @@ pub extern "C" fn cabbagelute_compare_versions(a: &[u8], b: &[u8]) -> u32
 }
 
 // 0 not met, 1 met, 2 no such operator.
-#[unsafe(no_mangle)]
-pub extern "C" fn cabbagelute_version_meets(version: &[u8], operator: u32, asked: &[u8]) -> u32
+pub fn cabbagelute_version_meets(version: &[u8], operator: u32, asked: &[u8]) -> u32
     ensures { result ≡ met_number (meets version.now operator asked.now) }
 {
     let m = versions::meets(version, operator, asked);
