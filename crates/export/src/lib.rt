@@ -77,12 +77,7 @@ fn read_with(
 }
 
 // With a workspace of its own: 16,384 entries, so texts of up to 1,360 bytes.
-pub fn cabbagelute_read(
-    text: &[u8],
-    pool: &mut [u8],
-    output: &mut [u8],
-    detail: &mut [u8],
-) -> u32
+pub fn cabbagelute_read(text: &[u8], pool: &mut [u8], output: &mut [u8], detail: &mut [u8]) -> u32
     ensures { Exports text.now pool.old output.old detail.old pool.new output.new detail.new result }
 {
     let mut workspace = [0u32; Size::ENTRIES];
