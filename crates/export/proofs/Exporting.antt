@@ -2,10 +2,8 @@
 use Prim.Native.Nat.{ℕ, ◌<◌, ◌≤◌}
 use mathlib.Core.Path.{◌≡◌, refl, ap, sym, ◌∙◌, subst}
 use mathlib.Core.Bool.{Bool, true, false}
-use mathlib.Core.List.{List, ◌++◌, append_assoc}
-use native.Mathlib.Omega.{arith}
-use native.Mathlib.Nat.{zero-add}
-use lib.ListN.{length, replicate, length-append, length-replicate}
+use mathlib.Core.List.{List}
+use lib.ListN.{length, replicate, length-replicate}
 use lib.Dec.{ltb}
 use borrow.Author.Tests.{lt-ltb, le-ltb}
 use Rattle.rules.specs.Bytes.{to_little, overwrite}
@@ -15,50 +13,18 @@ use Rattle.rules.specs.Reading.{reading}
 use Rattle.rules.specs.Reader.{Outcome, read_buffers, untouched, read}
 use Rattle.rules.specs.Export.{name_bytes, detail_bytes, with_detail, exported_in, exported}
 use Rattle.rules.proofs.CallLaws.{Checked, checked, read-long, read-space, read-pool, read-utf8, read-on, written-buffers}
-use Rattle.scan.specs.Stores.{puts}
-use Rattle.scan.proofs.Stores.{puts-puts, puts-front}
-use Rattle.scan.proofs.Littles.{length-little}
+use Rattle.std.specs.Prelude as Std
 use Rattle.answers.specs.declared.Answer.{Answer}
+use Rattle.answers.specs.declared.Refusal.{Refusal}
+use Rattle.answers.specs.Refusals.{answer_of}
 use Rattle.answers.specs.Tells.{number_of, Tells}
 use Rattle.pkg_config.specs.Call.{lent, Reads}
 use Rattle.pkg_config.proofs.Calls.{same_answer}
 use Rattle.export.specs.Calls.{ExportsIn, ExportsWith, Exports, detail_of}
 
--- one store after another
-pub next : (l after : List ℕ) (k : ℕ) (vs us : List ℕ) → k ≡ length vs → after ≡ puts (puts l 0 vs) k us → after ≡ puts l 0 (vs ++ us)
-next l after k vs us h e = e ∙ ap (λ (i : ℕ). puts (puts l 0 vs) i us) (h ∙ sym (zero-add (length vs))) ∙ puts-puts l 0 vs us
-
-six-numbers : (l l₁ l₂ l₃ l₄ l₅ l₆ : List ℕ) (a b c d e f : ℕ) → 48 ≤ length l → l₁ ≡ puts l 0 (to_little 8 a) → l₂ ≡ puts l₁ 8 (to_little 8 b) → l₃ ≡ puts l₂ 16 (to_little 8 c)
-    → l₄ ≡ puts l₃ 24 (to_little 8 d) → l₅ ≡ puts l₄ 32 (to_little 8 e) → l₆ ≡ puts l₅ 40 (to_little 8 f)
-    → l₆ ≡ overwrite (to_little 8 a ++ to_little 8 b ++ (to_little 8 c ++ to_little 8 d) ++ (to_little 8 e ++ to_little 8 f)) l
-six-numbers l l₁ l₂ l₃ l₄ l₅ l₆ a b c d e f h p₁ p₂ p₃ p₄ p₅ p₆ =
-    let la : length (to_little 8 a) ≡ 8 = length-little 8 a in
-    let lb : length (to_little 8 a ++ to_little 8 b) ≡ 16 = omega (arith, length-append (to_little 8 a) (to_little 8 b), la, length-little 8 b) in
-    let lc : length (to_little 8 a ++ to_little 8 b ++ to_little 8 c) ≡ 24 = omega (arith, length-append (to_little 8 a ++ to_little 8 b) (to_little 8 c), lb, length-little 8 c) in
-    let ld : length (to_little 8 a ++ to_little 8 b ++ to_little 8 c ++ to_little 8 d) ≡ 32 = omega (arith, length-append (to_little 8 a ++ to_little 8 b ++ to_little 8 c) (to_little 8 d), lc, length-little 8 d) in
-    let le : length (to_little 8 a ++ to_little 8 b ++ to_little 8 c ++ to_little 8 d ++ to_little 8 e) ≡ 40 = omega (arith, length-append (to_little 8 a ++ to_little 8 b ++ to_little 8 c ++ to_little 8 d) (to_little 8 e), ld, length-little 8 e) in
-    let lf : length (to_little 8 a ++ to_little 8 b ++ to_little 8 c ++ to_little 8 d ++ to_little 8 e ++ to_little 8 f) ≡ 48 = omega (arith, length-append (to_little 8 a ++ to_little 8 b ++ to_little 8 c ++ to_little 8 d ++ to_little 8 e) (to_little 8 f), le, length-little 8 f) in
-    let q₂ = next l l₂ 8 (to_little 8 a) (to_little 8 b) (sym la) (p₂ ∙ ap (λ (x : List ℕ). puts x 8 (to_little 8 b)) p₁) in
-    let q₃ = next l l₃ 16 (to_little 8 a ++ to_little 8 b) (to_little 8 c) (sym lb) (p₃ ∙ ap (λ (x : List ℕ). puts x 16 (to_little 8 c)) q₂) in
-    let q₄ = next l l₄ 24 (to_little 8 a ++ to_little 8 b ++ to_little 8 c) (to_little 8 d) (sym lc) (p₄ ∙ ap (λ (x : List ℕ). puts x 24 (to_little 8 d)) q₃) in
-    let q₅ = next l l₅ 32 (to_little 8 a ++ to_little 8 b ++ to_little 8 c ++ to_little 8 d) (to_little 8 e) (sym ld) (p₅ ∙ ap (λ (x : List ℕ). puts x 32 (to_little 8 e)) q₄) in
-    let q₆ = next l l₆ 40 (to_little 8 a ++ to_little 8 b ++ to_little 8 c ++ to_little 8 d ++ to_little 8 e) (to_little 8 f) (sym le) (p₆ ∙ ap (λ (x : List ℕ). puts x 40 (to_little 8 f)) q₅) in
-    let g : to_little 8 a ++ to_little 8 b ++ to_little 8 c ++ to_little 8 d ++ to_little 8 e ++ to_little 8 f ≡ to_little 8 a ++ to_little 8 b ++ (to_little 8 c ++ to_little 8 d) ++ (to_little 8 e ++ to_little 8 f) =
-    append_assoc (to_little 8 a ++ to_little 8 b ++ to_little 8 c ++ to_little 8 d) (to_little 8 e) (to_little 8 f)
-    ∙ ap (λ (x : List ℕ). x ++ (to_little 8 e ++ to_little 8 f)) (append_assoc (to_little 8 a ++ to_little 8 b) (to_little 8 c) (to_little 8 d)) in
-    q₆ ∙ puts-front l (to_little 8 a ++ to_little 8 b ++ to_little 8 c ++ to_little 8 d ++ to_little 8 e ++ to_little 8 f) (omega (arith, lf, h)) ∙ ap (λ (x : List ℕ). overwrite x l) g
-
--- an answer's six numbers
-pub detail-put : (l l₁ l₂ l₃ l₄ l₅ l₆ : List ℕ) (x : Answer) (a : ℕ) → 48 ≤ length l → a ≡ number_of x.number → l₁ ≡ puts l 0 (to_little 8 a) → l₂ ≡ puts l₁ 8 (to_little 8 x.detail.value)
-    → l₃ ≡ puts l₂ 16 (to_little 8 x.detail.first.place) → l₄ ≡ puts l₃ 24 (to_little 8 x.detail.first.length) → l₅ ≡ puts l₄ 32 (to_little 8 x.detail.second.place)
-    → l₆ ≡ puts l₅ 40 (to_little 8 x.detail.second.length) → l₆ ≡ overwrite (detail_of x) l
-detail-put l l₁ l₂ l₃ l₄ l₅ l₆ x a h e p₁ p₂ p₃ p₄ p₅ p₆ =
-    six-numbers l l₁ l₂ l₃ l₄ l₅ l₆ (number_of x.number) x.detail.value x.detail.first.place x.detail.first.length x.detail.second.place x.detail.second.length h
-    (p₁ ∙ ap (λ (k : ℕ). puts l 0 (to_little 8 k)) e) p₂ p₃ p₄ p₅ p₆
-
 -- the answer's numbers are the document's
 detail-is : (a : Answer) (b : Rules.Answer) → Tells a b → detail_of a ≡ detail_bytes b
-unfolding detail_bytes name_bytes
+unfolding detail_bytes name_bytes to_little
 detail-is a b t =
     rw (← t.is_number, ← t.is_value, ← t.is_first.is_place, ← t.is_first.is_length, ← t.is_second.is_place, ← t.is_second.is_length) refl
 
@@ -75,17 +41,18 @@ module _ (text ws pool out det : List ℕ) where
       let q = lt-ltb (length det) 48 h in
       record { is_number = rw (q, exported_in) e; is_workspace = rw (q, exported_in) refl; is_pool = rw (q, exported_in) refl; is_output = rw (q, exported_in) refl; is_detail = rw (q, exported_in) refl }
 
-  pub detail-written : (ws' pool' out' det' : List ℕ) (a : Answer) (r : ℕ) → 48 ≤ length det → Reads text ws pool out ws' pool' out' a → det' ≡ overwrite (detail_of a) det → r ≡ number_of a.number
+  pub detail-written : (ws' pool' out' det' : List ℕ) (x : Std.Result ℕ Refusal) (a : Answer) (r : ℕ) → 48 ≤ length det → Reads text ws pool out ws' pool' out' x → a ≡ answer_of x → det' ≡ overwrite (detail_of a) det → r ≡ number_of a.number
       → ExportsIn text ws pool out det ws' pool' out' det' r
   unfolding exported_in with_detail
-  detail-written ws' pool' out' det' a r h R d e =
+  detail-written ws' pool' out' det' x a r h R z d e =
+      let t : Tells a (read text (lent ws pool out)).answer = rw z R.is_answer in
       let q = le-ltb (length det) 48 h in
       record {
-        is_number = rw (q, exported_in) (e ∙ R.is_answer.is_number);
+        is_number = rw (q, exported_in) (e ∙ t.is_number);
         is_workspace = rw (q, exported_in) R.is_workspace;
         is_pool = rw (q, exported_in) R.is_pool;
         is_output = rw (q, exported_in) R.is_output;
-        is_detail = rw (q, exported_in) (d ∙ ap (λ (x : List ℕ). overwrite x det) (detail-is a (read text (lent ws pool out)).answer R.is_answer));
+        is_detail = rw (q, exported_in) (d ∙ ap (λ (x : List ℕ). overwrite x det) (detail-is a (read text (lent ws pool out)).answer t));
       }
 
   same_read : (other : List ℕ) → length ws ≡ length other → Same (read text (lent ws pool out)) (read text (lent other pool out))

@@ -1,10 +1,10 @@
 -- What the exported calls answer, and what they leave in the lent buffers (document 01, "Records and listing"). Assumes nothing.
-use Rattle.std.specs.Prelude.{ℕ, ◌≡◌, List, ◌++◌, replicate}
-use Rattle.rules.specs.Bytes.{to_little}
+use Rattle.std.specs.Prelude.{ℕ, ◌≡◌, List, [], ◌∷◌, replicate}
 use Rattle.rules.specs.Export.{exported_in, exported}
 use Rattle.answers.specs.declared.Answer.{Answer}
 use Rattle.answers.specs.Tells.{number_of}
 use Rattle.pkg_config.specs.Call.{lent}
+use Rattle.export.specs.Details.{numbers_bytes}
 
 -- THE PROMISE of the call with a lent workspace: the number, and the final contents of all that is lent, on every input
 pub record ExportsIn (text ws pool out det ws' pool' out' det' : List ℕ) (r : ℕ) : Type 0 where
@@ -30,5 +30,4 @@ pub record Exports (text pool out det pool' out' det' : List ℕ) (r : ℕ) : Ty
 
 -- the six numbers of an answer of the code
 abbrev pub detail_of : Answer → List ℕ
-detail_of a = to_little 8 (number_of a.number) ++ to_little 8 a.detail.value ++ (to_little 8 a.detail.first.place ++ to_little 8 a.detail.first.length)
-    ++ (to_little 8 a.detail.second.place ++ to_little 8 a.detail.second.length)
+detail_of a = numbers_bytes (number_of a.number ∷ a.detail.value ∷ a.detail.first.place ∷ a.detail.first.length ∷ a.detail.second.place ∷ a.detail.second.length ∷ [])

@@ -1,15 +1,16 @@
 // The calls for C (document 01, "Records and listing"): include/cabbagelute.h says every promise in words.
 #![tactic(auto)]
 
+pub mod detail;
 pub mod items;
 
 ghost use Rattle.std.specs.Prelude.{◌≡◌, ◌+◌, ◌≤◌, length};
 ghost use Rattle.rules.specs.Bytes.{overwrite};
 ghost use Rattle.export.specs.Calls.{ExportsIn, ExportsWith, Exports, detail_of};
 
-use answers::{Answer, number_of};
+use answers::{Answer, Detail, number_of};
+use detail::put_numbers;
 use pkg_config::read;
-use scan::little::put_little;
 
 pub mod version_calls;
 
@@ -26,20 +27,24 @@ impl Size {
 }
 
 // The answer as six 8-byte little-endian numbers: refusal, number, then place and length of each name.
-fn put_detail(detail: &mut [u8], a: Answer)
+fn put_detail(detail: &mut [u8], answer: Answer)
     requires { 48 ≤ length detail.old }
-    ensures { detail.new ≡ overwrite (detail_of a) detail.old }
+    ensures { detail.new ≡ overwrite (detail_of answer) detail.old }
 {
-    let number = a.number;
-    let d = a.detail;
-    let first = d.first;
-    let second = d.second;
-    put_little(detail, 0, 8, number_of(number) as u64);
-    put_little(detail, 8, 8, d.value);
-    put_little(detail, 16, 8, first.place as u64);
-    put_little(detail, 24, 8, first.length as u64);
-    put_little(detail, 32, 8, second.place as u64);
-    put_little(detail, 40, 8, second.length as u64);
+    let Detail {
+        value,
+        first,
+        second,
+    } = answer.detail;
+    let numbers = [
+        number_of(answer.number) as u64,
+        value,
+        first.place as u64,
+        first.length as u64,
+        second.place as u64,
+        second.length as u64,
+    ];
+    put_numbers(detail, &numbers);
 }
 
 // With a lent workspace, counted in entries of 32 bits.
@@ -56,10 +61,9 @@ pub fn cabbagelute_read_in(
     if detail.len() < Size::DETAIL {
         return 19;
     }
-    let a = read(text, workspace, pool, output);
-    put_detail(detail, a);
-    let number = a.number;
-    number_of(number)
+    let answer = Answer::from(read(text, workspace, pool, output));
+    put_detail(detail, answer);
+    number_of(answer.number)
 }
 
 // The same, said without what the workspace holds.

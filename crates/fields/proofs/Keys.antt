@@ -1,52 +1,78 @@
 -- The search for a key, one key after the other. Assumes nothing.
-use Prim.Native.Nat.{ℕ, suc, ◌+◌, ◌≤◌, ◌<◌}
+use Prim.Native.Nat.{ℕ, suc, ◌≤◌}
 use mathlib.Core.Path.{◌≡◌, refl, sym, ◌∙◌, ap}
 use mathlib.Core.Bool.{Bool, true, false}
 use mathlib.Core.List.{List, [], ◌∷◌}
 use mathlib.Core.Option.{Option, none, some}
 use native.Mathlib.Omega.{arith}
-use lib.ListN.{length}
 use Rattle.rules.specs.Bytes.{same}
 use Rattle.rules.specs.Lines.{field, field_keys}
+use Rattle.std.specs.Prelude.{cond, find, map, Some}
+use Rattle.scan.proofs.Compares.{same-pointwise}
 use Rattle.fields.specs.Seen.{or_zero, field_number}
+use Rattle.fields.specs.Numbers.{number_of, number_or_zero, key_of, has_key}
+use Rattle.fields.specs.declared.Field.{Field}
+use Rattle.fields.specs.declared.Field.TheVariants.{Name, Description, Url, Version, Requires, RequiresPrivate, Conflicts, Cflags, Libs, LibsPrivate}
 
--- the answer b of a test with key k, of those from field f on
-module _ (f : ℕ) (k : List ℕ) (keys : List (List ℕ)) (key : List ℕ) (b : Bool) (e : b ≡ same k key) where
-  pub key_here : b ≡ true → or_zero (field f (k ∷ keys) key) ≡ f
-  unfolding field or_zero
-  key_here t = rw (sym e ∙ t, field) refl
+-- the fields have the numbers from n on
+abbrev From : ℕ → List Field → Type 0
+From n [] = Unit {0}
+From n (f ∷ fs) = (number_of f ≡ n) × From (suc n) fs
 
-  pub key-next : b ≡ false → or_zero (field f (k ∷ keys) key) ≡ or_zero (field (suc f) keys key)
-  unfolding field
-  key-next t = rw (sym e ∙ t, field) refl
-
--- a field that is found has a number from f up to the last
-found_between : (f : ℕ) (keys : List (List ℕ)) (key : List ℕ) (g : ℕ) → field f keys key ≡ some g → (f ≤ g) × (g < f + length keys)
-unfolding field
-found_between f [] key g e = let z : ◌≡◌ {A = ℕ} 0 1 = cc in absurd (omega arith)
-found_between f (k ∷ keys) key g e = go (same k key) refl (λ q. found_between (suc f) keys key g q)
-  where
-    go : (b : Bool) → same k key ≡ b → (field (suc f) keys key ≡ some g → (suc f ≤ g) × (g < suc f + length keys)) → (f ≤ g) × (g < f + suc (length keys))
-    go true q ih = let x : some f ≡ some g = sym (rw (q, field) refl) ∙ e in let y : f ≡ g = cc in (omega arith, omega arith)
-    go false q ih = let x = ih (sym (rw (q, field) refl) ∙ e) in (omega (arith, x.0), omega (arith, x.1))
-
--- what `of_key` answers: 0 exactly where the key is no field's, else its number, 1 to 10
-pub data Known (key : List ℕ) (r : ℕ) : Type 0 where
-  unknown : r ≡ 0 → field 1 field_keys key ≡ none → Known key r
-  known : 1 ≤ r → r ≤ 10 → field 1 field_keys key ≡ some r → Known key r
-
-pub of_number : (key : List ℕ) (r : ℕ) → r ≡ field_number key → Known key r
-unfolding or_zero field_keys
-of_number key r e = go (field 1 field_keys key) refl
-  where
-    go : (o : Option ℕ) → field 1 field_keys key ≡ o → Known key r
-    go none q = unknown (e ∙ ap or_zero q) q
-    go (some g) q =
-        let x = found_between 1 field_keys key g q in
-        let y : r ≡ g = e ∙ ap or_zero q in
-        known (omega (arith, x.0)) (omega (arith, x.1)) (q ∙ ap some (sym y))
-
--- no key is left
-pub key-none : (f : ℕ) (key : List ℕ) → or_zero (field f [] key) ≡ 0
+-- what is found among them has the number that their keys give
+found : (key : List ℕ) (n : ℕ) (fs : List Field) → From n fs → number_or_zero (find (λ f. has_key key f) fs) ≡ or_zero (field n (map key_of fs) key)
 unfolding field or_zero
-key-none f key = refl
+found key n [] h = refl
+found key n (f ∷ fs) h = rw (same-pointwise (key_of f) key) (go (same (key_of f) key) (found key (suc n) fs h.1))
+  where
+    go : (b : Bool) → number_or_zero (find (λ f. has_key key f) fs) ≡ or_zero (field (suc n) (map key_of fs) key)
+        → number_or_zero (cond b (Some f) (find (λ f. has_key key f) fs)) ≡ or_zero (elim b [ true ↦ some n | false ↦ field (suc n) (map key_of fs) key ])
+    go true e = h.0
+    go false e = e
+
+abbrev ten : List Field
+ten = Name ∷ Description ∷ Url ∷ Version ∷ Requires ∷ RequiresPrivate ∷ Conflicts ∷ Cflags ∷ Libs ∷ LibsPrivate ∷ []
+
+pub found_in_all : (key : List ℕ) → number_or_zero (find (λ f. has_key key f) ten) ≡ field_number key
+unfolding field_keys
+found_in_all key = found key 1 ten (refl, (refl, (refl, (refl, (refl, (refl, (refl, (refl, (refl, (refl, tt))))))))))
+
+-- every field's number is one of them
+pub number-within : (f : Field) → (1 ≤ number_of f) × (number_of f ≤ 10)
+number-within Name = (omega arith, omega arith)
+number-within Description = (omega arith, omega arith)
+number-within Url = (omega arith, omega arith)
+number-within Version = (omega arith, omega arith)
+number-within Requires = (omega arith, omega arith)
+number-within RequiresPrivate = (omega arith, omega arith)
+number-within Conflicts = (omega arith, omega arith)
+number-within Cflags = (omega arith, omega arith)
+number-within Libs = (omega arith, omega arith)
+number-within LibsPrivate = (omega arith, omega arith)
+
+-- a field that is found among keys from n on has a number from n on
+found_from : (n : ℕ) (keys : List (List ℕ)) (key : List ℕ) (g : ℕ) → field n keys key ≡ some g → n ≤ g
+unfolding field
+found_from n [] key g e = let z : ◌≡◌ {A = ℕ} 0 1 = cc in absurd (omega arith)
+found_from n (k ∷ keys) key g e = go (same k key) e (found_from (suc n) keys key g)
+  where
+    go : (b : Bool) → elim b [ true ↦ some n | false ↦ field (suc n) keys key ] ≡ some g → (field (suc n) keys key ≡ some g → suc n ≤ g) → n ≤ g
+    go true q ih = let y : n ≡ g = cc in omega arith
+    go false q ih = omega (arith, ih q)
+
+-- what `of_key` answers, by its case
+pub of_none : (key : List ℕ) → 0 ≡ field_number key → field 1 field_keys key ≡ none
+unfolding or_zero
+of_none key e = go (field 1 field_keys key) refl e
+  where
+    go : (o : Option ℕ) → field 1 field_keys key ≡ o → 0 ≡ or_zero o → field 1 field_keys key ≡ none
+    go none q z = q
+    go (some g) q z = absurd (omega (arith, found_from 1 field_keys key g q))
+
+pub of_some : (key : List ℕ) (f : Field) → number_of f ≡ field_number key → field 1 field_keys key ≡ some (number_of f)
+unfolding or_zero
+of_some key f e = go (field 1 field_keys key) refl e
+  where
+    go : (o : Option ℕ) → field 1 field_keys key ≡ o → number_of f ≡ or_zero o → field 1 field_keys key ≡ some (number_of f)
+    go none q z = absurd (omega (arith, number-within f))
+    go (some g) q z = q ∙ ap some (sym z)

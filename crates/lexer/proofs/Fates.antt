@@ -8,19 +8,19 @@ use native.Mathlib.Omega.{arith}
 use native.Mathlib.Decide.{ℕ_discrete, dec_lt}
 use lib.ListN.{length, drop, get_or, drop_of_length-le}
 use lib.Dec.{eqb}
-use borrow.Author.Tests.{eqb-true, eq-eqb, ne_eqb, lt-leb}
+use borrow.Author.Tests.{eqb-true, eq-eqb}
 use Rattle.rules.specs.Bytes.{pick, is, run}
 use Rattle.rules.proofs.BytesLaws.{false-true}
 use Rattle.rules.specs.Tokens.{Token, backslash_kind}
 use Rattle.rules.specs.Numbers.{LexError, Refusal, lex_error, Result, refused, ok}
 use Rattle.rules.specs.Lexing.{Class, Lexeme, chars, reference, mark, bad, Gathered, nothing_yet, gather, is_line_end, class, second, comment, after_backslash, after_dollar, lexeme, prepend, lex, tokens}
 use Rattle.rules.proofs.LexingLaws.{lex-chars, lex-reference, lex-mark, lex-bad}
-use Rattle.scan.specs.Classes.{class_number, class_at}
-use Rattle.scan.proofs.Classes.{class-is, class-in, test, tests, test-true}
+use Rattle.scan.specs.Classes.{class_number}
+use Rattle.scan.proofs.Classes.{class-is, test, tests, test-true}
 use Rattle.scan.proofs.Lists.{rest_at}
-use Rattle.lexer.specs.Pieces.{lexeme_at, error_shown, shown, Shows, Reads}
-use Rattle.lexer.specs.Marks.{dollar_marks, marks_of, unmarked}
-use Rattle.lexer.specs.Inner.{Accepted, has_dollar}
+use Rattle.lexer.specs.Pieces.{lexeme_at, Shows, Reads}
+use Rattle.lexer.specs.Marks.{dollar_stop, free}
+use Rattle.lexer.specs.Inner.{Accepted}
 use Rattle.lexer.proofs.Lexemes.{run_on, run-off, run_end, lexeme-text, lexeme-sign, lexeme-brace, lexeme-comment, lexeme-backslash, lexeme-dollar, reads-one}
 use Rattle.lexer.proofs.Lefts.{left-chars, left-token, left-bad}
 
@@ -91,16 +91,6 @@ never-bad (b ∷ bs) e q = go (is "#" b) (is_line_end b) q
     go false true r = let z : ◌≡◌ {A = ℕ} 0 1 = cc in absurd (omega arith)
     go false false r = let z : ◌≡◌ {A = ℕ} 0 1 = cc in absurd (omega arith)
 
-backslash-kind : (text : List ℕ) (i kind from len next : ℕ) → Shows text i (after_backslash (drop (i + 1) text)) kind from len next → kind ≤ 9
-unfolding shown pick
-backslash-kind text i kind from len next s = go (dec_lt 9 kind)
-  where
-    go : Dec (9 < kind) → kind ≤ 9
-    go (no l) = omega arith
-    go (yes l) =
-        absurd (never-bad (drop (i + 1) text) (error_shown text kind from)
-        (s.is_lexeme ∙ rw (ne_eqb kind 1 (λ e. omega arith), ne_eqb kind 2 (λ e. omega arith), lt-leb kind 9 l)))
-
 is-fine : (text : List ℕ) → fate (tokens text) ≡ none → Accepted text
 is-fine text e = go (tokens text) refl e
   where
@@ -123,37 +113,33 @@ module _ (text : List ℕ) (i : ℕ) (F : Fated text i) where
     reads = reads-one text i kind from len next s
 
     -- past one lexeme
-    fated-more : kind ≤ 9 → Fated text next
-    fated-more l = record { here = s.inside; same = F.same ∙ go (ℕ_discrete kind 1) }
+    fated-more : Fated text next
+    fated-more = record { here = s.inside; same = F.same ∙ go (ℕ_discrete kind 1) }
       where
         go : Dec (kind ≡ 1) → doom i (drop i text) ≡ doom next (drop next text)
         go (yes q) = ap fate (left-chars text i kind from len next h reads 0 nothing_yet q) ∙ fate-lex (drop next text) 0 0 _ nothing_yet 0 next
-        go (no q) = ap fate (left-token text i kind from len next h reads 0 nothing_yet q l) ∙ fate-prepend _ _ ∙ fate-lex (drop next text) _ 0 nothing_yet nothing_yet 0 next
+        go (no q) = ap fate (left-token text i kind from len next h reads 0 nothing_yet q) ∙ fate-prepend _ _ ∙ fate-lex (drop next text) _ 0 nothing_yet nothing_yet 0 next
 
     fated-less : length text - next < length text - i
     fated-less = let a = s.on in let b = s.inside in omega arith
 
-    fated-bad : (x : LexError) → 9 < kind → x ≡ error_shown text kind from → tokens text ≡ refused (lex_error x i)
-    fated-bad x l q =
-        is_refused (tokens text) (lex_error x i)
-        (F.same ∙ ap fate (left-bad text i kind from len next h reads 0 nothing_yet l) ∙ ap (λ (y : LexError). some (lex_error y i)) (sym q))
-      where
-        is_refused : (r : Result (List Token)) (f : Refusal) → fate r ≡ some f → r ≡ refused f
-        is_refused (refused g) f e = ap refused (some-injective g f e)
-        is_refused (ok ts) f e = absurd (none-ne-some f e)
+  -- the refusal of a reference that can't be lexed
+  fated-bad : (x : LexError) → i < length text → lexeme_at text i ≡ bad x → tokens text ≡ refused (lex_error x i)
+  fated-bad x h b = is_refused (tokens text) (lex_error x i) (F.same ∙ ap fate (left-bad text i x h b 0 nothing_yet))
+    where
+      is_refused : (r : Result (List Token)) (f : Refusal) → fate r ≡ some f → r ≡ refused f
+      is_refused (refused g) f e = ap refused (some-injective g f e)
+      is_refused (ok ts) f e = absurd (none-ne-some f e)
 
   -- by the class c of the byte
   module _ (c : ℕ) (h : i < length text) (e : c ≡ class_number (class (get_or text i 0))) where
-    at_here : c ≡ class_at (drop i text)
-    at_here = e ∙ sym (class-in text i h)
-
     -- past one byte
     fated-byte : c < 8 → Fated text (i + 1)
     fated-byte l = go (dec_lt c 3)
       where
         go : Dec (c < 3) → Fated text (i + 1)
-        go (yes p) = fated-more 1 i 1 (i + 1) h (lexeme-text text i c h at_here p) (omega arith)
-        go (no p) = fated-more c i 1 (i + 1) h (lexeme-sign text i c h at_here (omega arith) l) (omega arith)
+        go (yes p) = fated-more 1 i 1 (i + 1) h (lexeme-text text i c h e p)
+        go (no p) = fated-more c i 1 (i + 1) h (lexeme-sign text i c h e (omega arith) l)
 
     fated-line : c ≡ 9 → Fated text (i + 1)
     unfolding class_number
@@ -171,28 +157,27 @@ module _ (text : List ℕ) (i : ℕ) (F : Fated text i) where
         go : Dec (c < 8) → Dec (c ≡ 9) → Fated text (i + 1)
         go (yes l) q = fated-byte l
         go (no l) (yes q) = fated-line q
-        go (no l) (no n) = fated-more 1 i 1 (i + 1) h (lexeme-brace text i c h at_here (omega arith) k n f g) (omega arith)
+        go (no l) (no n) = fated-more 1 i 1 (i + 1) h (lexeme-brace text i c h e (omega arith) k n f g)
 
     -- past a comment
     module _ (next : ℕ) (q : c ≡ 11) (d : next ≡ i + 1 + comment (drop (i + 1) text)) where
       pub fated-comment : Fated text next
-      fated-comment = fated-more 1 i 0 next h (lexeme-comment text i c h at_here next q d) (omega arith)
+      fated-comment = fated-more 1 i 0 next h (lexeme-comment text i c h e next q d)
 
       pub comment-less : length text - next < length text - i
-      comment-less = fated-less 1 i 0 next h (lexeme-comment text i c h at_here next q d)
+      comment-less = fated-less 1 i 0 next h (lexeme-comment text i c h e next q d)
 
     module _ (kind from len next : ℕ) where
       -- past what a backslash makes
       pub fated-backslash : c ≡ 8 → Shows text i (after_backslash (drop (i + 1) text)) kind from len next → Fated text next
-      fated-backslash q s = fated-more kind from len next h (lexeme-backslash text i c h at_here kind from len next q s) (backslash-kind text i kind from len next s)
+      fated-backslash q s = fated-more kind from len next h (rw (lexeme-backslash text i c h e q) s)
 
       -- past what a `$` makes, or the refusal
-      module _ (q : c ≡ 10) (s : Shows text i (after_dollar (get_or text i 0) (drop (i + 1) text)) kind from len next) where
-        pub fated-dollar : kind ≤ 9 → Fated text next
-        fated-dollar l = fated-more kind from len next h (lexeme-dollar text i c h at_here kind from len next q s) l
+      pub fated-dollar : c ≡ 10 → Shows text i (after_dollar (get_or text i 0) (drop (i + 1) text)) kind from len next → Fated text next
+      fated-dollar q s = fated-more kind from len next h (rw (lexeme-dollar text i c h e q) s)
 
-        pub dollar-bad : (x : LexError) → 9 < kind → x ≡ error_shown text kind from → tokens text ≡ refused (lex_error x i)
-        dollar-bad x l r = fated-bad kind from len next h (lexeme-dollar text i c h at_here kind from len next q s) x l r
+    pub dollar-bad : (x : LexError) → c ≡ 10 → after_dollar (get_or text i 0) (drop (i + 1) text) ≡ bad x → tokens text ≡ refused (lex_error x i)
+    dollar-bad x q b = fated-bad x h (lexeme-dollar text i c h e q ∙ b)
 
   pub shown-less : {x : Lexeme} (kind from len next : ℕ) → Shows text i x kind from len next → length text - next < length text - i
   shown-less kind from len next s = let a = s.on in let b = s.inside in omega arith
@@ -202,44 +187,52 @@ module _ (text : List ℕ) (i : ℕ) (F : Fated text i) where
   fated-end h = is-fine text (F.same ∙ rw (drop_of_length-le text h))
 
 -- a byte that is no `$` and hides none
-marked-class : (b : ℕ) (c : Class) → class_number (class b) ≡ class_number c → (test c b ≡ true → 0 < dollar_marks b) → unmarked 2 b ≡ true → ⊥
-unfolding unmarked marks_of pick
-marked-class b c q p e = let z : dollar_marks b ≡ 0 = eqb-true (dollar_marks b) 0 e in let y = p (test-true c b q) in absurd (omega arith)
+marked-class : (b : ℕ) (c : Class) → class_number (class b) ≡ class_number c → (test c b ≡ true → dollar_stop b ≡ true) → free dollar_stop b ≡ true → ⊥
+marked-class b c q p e = let y : dollar_stop b ≡ true = p (test-true c b q) in let z = rw y at e in cc
 
-module _ (b : ℕ) (e : unmarked 2 b ≡ true) where
+or_mid : (s u : Bool) → (s || true || u) ≡ true
+or_mid true u = refl
+or_mid false u = refl
+
+or_last : (s t : Bool) → (s || t || true) ≡ true
+or_last true t = refl
+or_last false true = refl
+or_last false false = refl
+
+module _ (b : ℕ) (e : free dollar_stop b ≡ true) where
   not-dollar : class_number (class b) ≡ 10 → ⊥
-  unfolding dollar_marks pick class_number
-  not-dollar q = marked-class b Class.dollar q (λ t. rw t (omega arith)) e
+  unfolding dollar_stop class_number
+  not-dollar q = marked-class b Class.dollar q (λ t. rw t (or_mid (is "#" b) (is "\\" b))) e
 
   not-hash : class_number (class b) ≡ 11 → ⊥
-  unfolding dollar_marks pick class_number
-  not-hash q = marked-class b Class.hash q (λ t. rw t (omega arith)) e
+  unfolding dollar_stop class_number
+  not-hash q = marked-class b Class.hash q (λ t. rw t) e
 
   not-backslash : class_number (class b) ≡ 8 → ⊥
-  unfolding dollar_marks pick class_number
-  not-backslash q = marked-class b Class.backslash q (λ t. rw t (omega arith)) e
+  unfolding dollar_stop class_number
+  not-backslash q = marked-class b Class.backslash q (λ t. rw t (or_last (is "#" b) (is "$" b))) e
 
 -- past such bytes
-fated-run : (text : List ℕ) (r i : ℕ) → Fated text i → run (unmarked 2) (drop i text) ≡ r → Fated text (i + r)
+fated-run : (text : List ℕ) (r i : ℕ) → Fated text i → run (free dollar_stop) (drop i text) ≡ r → Fated text (i + r)
 fated-run text zero i F e = let z : i ≡ i + 0 = omega arith in rw (sym z) F
-fated-run text (suc r) i F e = go (dec_lt i (length text)) (unmarked 2 b) refl (λ G d. fated-run text r (i + 1) G d)
+fated-run text (suc r) i F e = go (dec_lt i (length text)) (free dollar_stop b) refl (λ G d. fated-run text r (i + 1) G d)
   where
     b : ℕ
     b = get_or text i 0
 
-    go : Dec (i < length text) → (t : Bool) → unmarked 2 b ≡ t → (Fated text (i + 1) → run (unmarked 2) (drop (i + 1) text) ≡ r → Fated text (i + 1 + r)) → Fated text (i + suc r)
-    go (no h) t q ih = let z = run_end (unmarked 2) text i (omega arith) in absurd (omega arith)
-    go (yes h) false q ih = let z = run-off (unmarked 2) text i h q in absurd (omega arith)
+    go : Dec (i < length text) → (t : Bool) → free dollar_stop b ≡ t → (Fated text (i + 1) → run (free dollar_stop) (drop (i + 1) text) ≡ r → Fated text (i + 1 + r)) → Fated text (i + suc r)
+    go (no h) t q ih = let z = run_end (free dollar_stop) text i (omega arith) in absurd (omega arith)
+    go (yes h) false q ih = let z = run-off (free dollar_stop) text i h q in absurd (omega arith)
     go (yes h) true q ih =
-        let n = run_on (unmarked 2) text i h q in
+        let n = run_on (free dollar_stop) text i h q in
         let z : i + 1 + r ≡ i + suc r = omega arith in
         rw (sym z) (ih (fated-other text i F (class_number (class b)) h refl (not-dollar b q) (not-hash b q) (not-backslash b q)) (omega arith))
 
 -- past the byte of class c at place i, and such bytes after it
 module _ (text : List ℕ) (i : ℕ) (F : Fated text i) (c end : ℕ) (h : i < length text) (e : c ≡ class_number (class (get_or text i 0))) (f : c ≡ 10 → ⊥) (g : c ≡ 11 → ⊥) (k : c ≡ 8 → ⊥)
-    (d : end ≡ i + 1 + run (unmarked 2) (drop (i + 1) text)) where
+    (d : end ≡ i + 1 + run (free dollar_stop) (drop (i + 1) text)) where
   pub fated-quiet : Fated text end
-  fated-quiet = rw d (fated-run text (run (unmarked 2) (drop (i + 1) text)) (i + 1) (fated-other text i F c h e f g k) refl)
+  fated-quiet = rw d (fated-run text (run (free dollar_stop) (drop (i + 1) text)) (i + 1) (fated-other text i F c h e f g k) refl)
 
   pub quiet-less : length text - end < length text - i
   quiet-less = let m = fated-quiet.here in omega arith
@@ -261,45 +254,23 @@ bad-dollar Class.colon b bs e q = let z : ◌≡◌ {A = ℕ} 0 1 = cc in absurd
 bad-dollar Class.single b bs e q = let z : ◌≡◌ {A = ℕ} 0 1 = cc in absurd (omega arith)
 bad-dollar Class.double b bs e q = let z : ◌≡◌ {A = ℕ} 0 1 = cc in absurd (omega arith)
 
-found-stays : (bs : List ℕ) → has_dollar true bs ≡ true
-unfolding has_dollar
-found-stays [] = refl
-found-stays (b ∷ bs) = found-stays bs
-
-later : (b : ℕ) (bs : List ℕ) → has_dollar false (b ∷ bs) ≡ false → (eqb b 36 ≡ false) × (has_dollar false bs ≡ false)
-unfolding has_dollar
-later b bs h = go (eqb b 36) refl h
-  where
-    go : (t : Bool) → eqb b 36 ≡ t → has_dollar t bs ≡ false → (eqb b 36 ≡ false) × (has_dollar false bs ≡ false)
-    go true d r = absurd (false-true r (found-stays bs))
-    go false d r = (d, r)
-
 is-dollar : (b : ℕ) → class b ≡ Class.dollar → eqb b 36 ≡ true
 unfolding is
 is-dollar b q = tests Class.dollar b ∙ eq-eqb _ _ (ap class_number q)
 
 -- without `$` there is no refusal
-calm : (bs : List ℕ) (end : ℕ) (g : Gathered) (skip at : ℕ) → has_dollar false bs ≡ false → fate (lex end g skip at bs) ≡ none
-unfolding lex has_dollar
+calm : (bs : List ℕ) (end : ℕ) (g : Gathered) (skip at : ℕ) → ((k : ℕ) → k < length bs → eqb (get_or bs k 0) 36 ≡ false) → fate (lex end g skip at bs) ≡ none
+unfolding lex
 calm [] end g skip at h = refl
-calm (b ∷ bs) end g (suc skip) at h = calm bs end g skip (suc at) (later b bs h).1
-calm (b ∷ bs) end g zero at h = go (lexeme (class b) b bs) refl (λ end' g' n. calm bs end' g' n (suc at) (later b bs h).1)
+calm (b ∷ bs) end g (suc skip) at h = calm bs end g skip (suc at) (λ k l. h (suc k) (omega arith))
+calm (b ∷ bs) end g zero at h = go (lexeme (class b) b bs) refl (λ end' g' n. calm bs end' g' n (suc at) (λ k l. h (suc k) (omega arith)))
   where
     go : (x : Lexeme) → lexeme (class b) b bs ≡ x → ((end' : ℕ) (g' : Gathered) (n : ℕ) → fate (lex end' g' n (suc at) bs) ≡ none) → fate (lex end g 0 at (b ∷ bs)) ≡ none
     go (chars cs n) q ih = ap fate (lex-chars end g at b bs cs n q) ∙ ih end (gather g cs at) n
     go (reference name n) q ih = ap fate (lex-reference end g at b bs name n q) ∙ fate-prepend _ _ ∙ ih _ nothing_yet n
     go (mark kind n) q ih = ap fate (lex-mark end g at b bs kind n q) ∙ fate-prepend _ _ ∙ ih _ nothing_yet n
-    go (bad e) q ih = absurd (false-true (later b bs h).0 (is-dollar b (bad-dollar (class b) b bs e q)))
+    go (bad e) q ih = absurd (false-true (h 0 (omega arith)) (is-dollar b (bad-dollar (class b) b bs e q)))
 
-pub no-dollar : (text : List ℕ) (r : Bool) → r ≡ has_dollar false text → r ≡ false → Accepted text
+pub no-dollar : (text : List ℕ) → ((k : ℕ) → k < length text → eqb (get_or text k 0) 36 ≡ false) → Accepted text
 unfolding tokens
-no-dollar text r e q = is-fine text (calm text 0 nothing_yet 0 0 (sym e ∙ q))
-
--- a turn of has_dollar
-pub dollar-turn : (text : List ℕ) (i : ℕ) (found next x : Bool) → i < length text → next ≡ (found || eqb (get_or text i 0) 36) → has_dollar found (drop i text) ≡ x → has_dollar next (drop (i + 1) text) ≡ x
-unfolding has_dollar
-dollar-turn text i found next x h q e = rw q (rw (rest_at text i h) at e)
-
-pub dollar-end : (text : List ℕ) (i : ℕ) (found x : Bool) → length text ≤ i → has_dollar found (drop i text) ≡ x → found ≡ x
-unfolding has_dollar
-dollar-end text i found x h e = rw (drop_of_length-le text h) at e
+no-dollar text h = is-fine text (calm text 0 nothing_yet 0 0 h)

@@ -1,10 +1,10 @@
 -- The pass that fills workspace and pool: what holds at the head of its loop, and that a turn keeps it. Assumes nothing.
 use Prim.Native.Nat.{ℕ, suc, ◌+◌, ◌-◌, ◌*◌, ◌≤◌, ◌<◌}
-use mathlib.Core.Path.{◌≡◌, refl, ap, sym, ◌∙◌, subst}
+use mathlib.Core.Path.{◌≡◌, refl, ap, sym, ◌∙◌}
 use mathlib.Core.Bool.{Bool, true, false}
 use mathlib.Core.List.{List, [], ◌∷◌, ◌++◌, append_assoc, append-nil}
 use native.Mathlib.Omega.{arith}
-use native.Mathlib.Decide.{dec_lt, ℕ_discrete}
+use native.Mathlib.Decide.{ℕ_discrete}
 use lib.ListN.{length, take, drop, length-append, drop_of_length-le}
 use lib.Dec.{eqb, ltb}
 use borrow.Author.Tests.{ne_eqb, eq-eqb, lt-ltb, le-ltb, ltb-true, lt-leb}
@@ -18,12 +18,9 @@ use Rattle.scan.proofs.Lists.{length_part}
 use Rattle.scan.proofs.Stores.{length-puts, puts-overwrite, overwrite-nil}
 use Rattle.tokens.specs.Entries.{entry, entries, pool_text}
 use Rattle.tokens.proofs.TokenLaws.{entries-append, entries-one, length-entries}
-use Rattle.lexer.specs.declared.LexError.{LexError}
-use Rattle.lexer.specs.declared.Verdict.{Verdict}
-use Rattle.lexer.specs.declared.Verdict.TheVariants.{Fine, Bad}
-use Rattle.lexer.specs.Lexes.{Room, Holds, Untouched, error_of}
+use Rattle.lexer.specs.Lexes.{Room, Holds}
 use Rattle.lexer.specs.Pieces.{Reads}
-use Rattle.lexer.specs.Inner.{Accepted, Judges, Fillable, flushed, flushed_count, FlushRoom, made, PutRoom, KeepRoom, kept}
+use Rattle.lexer.specs.Inner.{Accepted, Fillable, flushed, flushed_count, FlushRoom, made, PutRoom, KeepRoom, Sound, kept}
 use Rattle.lexer.proofs.Lefts.{prepend-nil, prepend-prepend, kind-above, left-chars, left-token, Left, left-refused}
 
 -- Text that is being gathered
@@ -153,18 +150,14 @@ module _ (text ws₀ pool₀ ws pool : List ℕ) (i count start used source : �
   pub keep-room : i < length text → KeepRoom text pool i used
   keep-room h = record { here = F.here; fits = omega arith }
 
+  -- no lexeme is refused
+  pub sound : i < length text → Sound text i
+  sound h e b =
+      let L : Left text i = record { ts = F.ts; end = start; g = gathered F.w source; here = F.here; rest = F.rest } in
+      refused-ok (sym (left-refused text i e h b L) ∙ F.fine.is_tokens)
+
   -- a turn, by its lexeme
   module _ (kind from len next : ℕ) (h : i < length text) (s : Reads text i kind from len next) where
-    -- no lexeme is refused
-    fine-kind : kind ≤ 9
-    fine-kind = go (dec_lt 9 kind)
-      where
-        go : Dec (9 < kind) → kind ≤ 9
-        go (no e) = omega arith
-        go (yes e) =
-            let L : Left text i = record { ts = F.ts; end = start; g = gathered F.w source; here = F.here; rest = F.rest } in
-            absurd (refused-ok (sym (left-refused text i L kind from len next h s e) ∙ F.fine.is_tokens))
-
     part_length : length (take len (drop from text)) ≡ len
     part_length = length_part text from len (omega arith)
 
@@ -218,7 +211,7 @@ module _ (text ws₀ pool₀ ws pool : List ℕ) (i count start used source : �
         let m = ap length (same_pool pool₁ n p) in
         let l = ap length b ∙ length-puts ws (4 * count) (flushed start used source) in
         record {
-          kind_is = kind-above text i kind from len next h s n fine-kind;
+          kind_is = kind-above text i kind from len next h s n;
           here = omega arith;
           part = omega arith;
           small = F.room.small;
@@ -244,7 +237,7 @@ module _ (text ws₀ pool₀ ws pool : List ℕ) (i count start used source : �
         let g = gathered F.w source in
         let t = made text i kind from len used in
         let us = F.ts ++ flush start g in
-        let k = kind-above text i kind from len next h s n fine-kind in
+        let k = kind-above text i kind from len next h s n in
         let m = made-le text i kind from len used (omega arith) k in
         let fl = flushed-le start used in
         let cn : count' ≡ length us = omega (arith, a, length-append F.ts (flush start g), flushed-count F.w start used source F.is_used, F.is_count) in
@@ -267,14 +260,6 @@ module _ (text ws₀ pool₀ ws pool : List ℕ) (i count start used source : �
           source_fit = omega arith;
           here = omega arith;
           fine = F.fine;
-          rest = F.rest ∙ ap (prepend F.ts) (left-token text i kind from len next h s start g n fine-kind ∙ rw (← F.is_used, ← c))
+          rest = F.rest ∙ ap (prepend F.ts) (left-token text i kind from len next h s start g n ∙ rw (← F.is_used, ← c))
               ∙ prepend-prepend F.ts (flush start g ++ (t ∷ [])) (lex used' nothing_yet 0 next (drop next text)) ∙ rw (append_assoc F.ts (flush start g) (t ∷ []));
         }
-
--- the whole: both passes, by the verdict of the first
-module _ (text ws pool : List ℕ) (v : Verdict) (j : Judges text v) where
-  pub lex-refused : (e : LexError) (at : ℕ) → v ≡ Bad e at → Untouched text ws ws pool pool (error_of e) at
-  lex-refused e at q = record { is_refused = subst (Judges text) q j; same_ws = refl; same_pool = refl }
-
-  pub fillable : v ≡ Fine → Room text ws pool → Fillable text ws pool
-  fillable q r = record { room = r; fine = subst (Judges text) q j }

@@ -5,11 +5,9 @@ use mathlib.Core.Bool.{true, false}
 use mathlib.Core.List.{List, [], ◌∷◌}
 use native.Mathlib.Omega.{arith}
 use lib.ListN.{length, take, drop, get_or, set, length-set, length-drop}
-use borrow.Author.Tests.{ne_eqb, lt-ltb, le-ltb}
+use borrow.Author.Tests.{ne_eqb}
 use Rattle.rules.specs.Bytes.{pick, run}
-use Rattle.rules.specs.Lexing.{class}
 use Rattle.rules.proofs.LexingLaws.{run-le}
-use Rattle.scan.specs.Classes.{class_number}
 use Rattle.scan.specs.Stores.{puts}
 use Rattle.scan.proofs.Lists.{rest_at}
 use Rattle.scan.proofs.Stores.{length-puts}
@@ -28,16 +26,6 @@ plain-first text j h t = rw (run_on is_plain text j h t, rest_at text j h)
 plain-none : (text : List ℕ) (j : ℕ) → j < length text → is_plain (get_or text j 0) ≡ false → plain_at text j ≡ []
 plain-none text j h t = rw (run-off is_plain text j h t)
 
--- by the class c of the byte b at place j
-module _ (text : List ℕ) (j b c : ℕ) (e : b ≡ get_or text j 0) (q : c ≡ class_number (class b)) where
-  is-plain : c < 3 → is_plain (get_or text j 0) ≡ true
-  unfolding is_plain
-  is-plain l = lt-ltb (class_number (class (get_or text j 0))) 3 (rw (← e, ← q) l)
-
-  not_plain : 3 ≤ c → is_plain (get_or text j 0) ≡ false
-  unfolding is_plain
-  not_plain l = le-ltb (class_number (class (get_or text j 0))) 3 (rw (← e, ← q) l)
-
 -- at the head of the loop: the run at place i, which goes to place `used`, is kept up to place j, and goes on at place `at`
 pub record Keeping (text pool₀ pool : List ℕ) (i used stop j at : ℕ) : Type 0 where
   pub here : j ≤ length text
@@ -51,29 +39,28 @@ pub keep-start : (text pool : List ℕ) (i used stop : ℕ) → KeepRoom text po
 keep-start text pool i used stop r h = record { here = r.here; near = h; fits = r.fits; long = refl; same_end = refl; left = refl }
 
 module _ (text pool₀ pool : List ℕ) (i used stop j at : ℕ) (K : Keeping text pool₀ pool i used stop j at) where
-  module _ (b c : ℕ) (h : j < stop) (e : b ≡ get_or text j 0) (q : c ≡ class_number (class b)) where
+  module _ (h : j < stop) where
     inside : j < length text
     inside = let n = K.near in omega arith
 
-    pub keep-more : c < 3 → Keeping text pool₀ (set pool at b) i used stop (j + 1) (at + 1)
-    keep-more l =
-        let t = is-plain text j b c e q l in
+    pub keep-more : is_plain (get_or text j 0) ≡ true → Keeping text pool₀ (set pool at (get_or text j 0)) i used stop (j + 1) (at + 1)
+    keep-more t =
         let n = run_on is_plain text j inside t in
-        let m = length-set pool at b in
+        let m = length-set pool at (get_or text j 0) in
         record {
           here = omega (arith, inside);
           near = K.near;
           fits = omega (arith, K.fits, m, inside);
           long = m ∙ K.long;
           same_end = omega (arith, K.same_end, n);
-          left = rw e (sym (ap (puts pool at) (plain-first text j inside t)) ∙ K.left);
+          left = sym (ap (puts pool at) (plain-first text j inside t)) ∙ K.left;
         }
 
-    pub keep-stop : 3 ≤ c → j ≡ i + run is_plain (drop i text)
-    keep-stop l = let n = run-off is_plain text j inside (not_plain text j b c e q l) in omega (arith, K.same_end, n)
+    pub keep-stop : is_plain (get_or text j 0) ≡ false → j ≡ i + run is_plain (drop i text)
+    keep-stop t = let n = run-off is_plain text j inside t in omega (arith, K.same_end, n)
 
-    pub keep_all : 3 ≤ c → pool ≡ puts pool₀ used (plain_at text i)
-    keep_all l = sym (ap (puts pool at) (plain-none text j inside (not_plain text j b c e q l))) ∙ K.left
+    pub keep_all : is_plain (get_or text j 0) ≡ false → pool ≡ puts pool₀ used (plain_at text i)
+    keep_all t = sym (ap (puts pool at) (plain-none text j inside t)) ∙ K.left
 
   -- the rest of a long run
   module _ (end : ℕ) (d : end ≡ j + run is_plain (drop j text)) where
@@ -101,13 +88,12 @@ module _ (text pool : List ℕ) (i used : ℕ) (h : i < length text) (r : KeepRo
   pub next-room : (b : ℕ) → KeepRoom text (set pool used b) (i + 1) (used + 1)
   next-room b = record { here = omega arith; fits = omega (arith, r.fits, length-set pool used b) }
 
-  pub kept_run : (b c end : ℕ) (pool' : List ℕ) → b ≡ get_or text i 0 → c ≡ class_number (class b) → c < 3 → end ≡ i + 1 + run is_plain (drop (i + 1) text)
-      → pool' ≡ puts (set pool used b) (used + 1) (plain_at text (i + 1)) → pool' ≡ puts pool used (kept text 1 i (end - i))
+  pub kept_run : (end : ℕ) (pool' : List ℕ) → is_plain (get_or text i 0) ≡ true → end ≡ i + 1 + run is_plain (drop (i + 1) text)
+      → pool' ≡ puts (set pool used (get_or text i 0)) (used + 1) (plain_at text (i + 1)) → pool' ≡ puts pool used (kept text 1 i (end - i))
   unfolding kept pick
-  kept_run b c end pool' e q l d p =
-      let t = is-plain text i b c e q l in
+  kept_run end pool' t d p =
       let n : end - i ≡ run is_plain (drop i text) = omega (arith, d, run_on is_plain text i h t) in
-      let f : puts (set pool used b) (used + 1) (plain_at text (i + 1)) ≡ puts pool used (plain_at text i) = rw e (sym (ap (puts pool used) (plain-first text i h t))) in
+      let f : puts (set pool used (get_or text i 0)) (used + 1) (plain_at text (i + 1)) ≡ puts pool used (plain_at text i) = sym (ap (puts pool used) (plain-first text i h t)) in
       p ∙ f ∙ rw n
 
 -- one lexeme

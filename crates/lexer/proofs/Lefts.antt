@@ -8,17 +8,16 @@ use native.Mathlib.Omega.{arith}
 use native.Mathlib.Decide.{ℕ_discrete}
 use lib.ListN.{length, take, drop, get_or}
 use lib.Seq.{drop-drop}
-use borrow.Author.Tests.{ltb-true, ne_eqb, le-leb, lt-leb}
+use borrow.Author.Tests.{ltb-true, ne_eqb, lt-leb}
 use Rattle.rules.specs.Bytes.{pick, run}
 use Rattle.rules.specs.Tokens.{Token, token, variable_kind, pooled}
-use Rattle.rules.specs.Numbers.{missing_close_variable, invalid_variable_char, lex_error, Result, refused, ok}
-use Rattle.rules.specs.Utf8.{code_point}
+use Rattle.rules.specs.Numbers.{LexError, lex_error, Result, refused, ok}
 use Rattle.rules.specs.Lexing.{chars, reference, mark, bad, Gathered, nothing_yet, first_source, gather, class, lexeme, flush, prepend, lex, tokens}
 use Rattle.rules.proofs.LexingLaws.{lexeme-fits, lex-chars, lex-reference, lex-mark, lex-bad, lex-skip}
 use Rattle.scan.specs.Classes.{class_number}
 use Rattle.scan.proofs.Lists.{rest_at}
 use Rattle.tokens.specs.Entries.{pool_text}
-use Rattle.lexer.specs.Pieces.{lexeme_at, error_shown, shown, is_plain, Plain, Reads}
+use Rattle.lexer.specs.Pieces.{lexeme_at, shown, is_plain, Plain, Reads}
 use Rattle.lexer.proofs.Lexemes.{plain}
 use Rattle.lexer.specs.Inner.{made}
 
@@ -84,20 +83,20 @@ module _ (text : List ℕ) (i kind from len next : ℕ) (h : i < length text) (s
   is_lexeme : (kind ≡ 1 → ⊥) → lexeme_at text i ≡ shown text i kind from len next
   is_lexeme n = ⊎_elim (λ p. absurd (n p.0.is_text)) (λ x. x) s.is_piece
 
-  shown-mark : (kind ≡ 1 → ⊥) → (kind ≡ 2 → ⊥) → kind ≤ 9 → lexeme_at text i ≡ mark kind (next - (i + 1))
+  shown-mark : (kind ≡ 1 → ⊥) → (kind ≡ 2 → ⊥) → lexeme_at text i ≡ mark kind (next - (i + 1))
   unfolding shown pick
-  shown-mark n q l = is_lexeme n ∙ rw (ne_eqb kind 1 n, ne_eqb kind 2 q, le-leb kind 9 l)
+  shown-mark n q = is_lexeme n ∙ rw (ne_eqb kind 1 n, ne_eqb kind 2 q)
 
   mark-above : lexeme_at text i ≡ mark kind (next - (i + 1)) → variable_kind < kind
   mark-above x = (rw x at (lexeme-fits (class (get_or text i 0)) (get_or text i 0) (drop (i + 1) text))).1
 
   -- a token that isn't Text
-  pub kind-above : (kind ≡ 1 → ⊥) → kind ≤ 9 → variable_kind ≤ kind
-  kind-above n l = go (ℕ_discrete kind 2)
+  pub kind-above : (kind ≡ 1 → ⊥) → variable_kind ≤ kind
+  kind-above n = go (ℕ_discrete kind 2)
     where
       go : Dec (kind ≡ 2) → variable_kind ≤ kind
       go (yes q) = omega arith
-      go (no q) = let f : variable_kind < kind = mark-above (shown-mark n q l) in omega arith
+      go (no q) = let f : variable_kind < kind = mark-above (shown-mark n q) in omega arith
 
   module _ (end : ℕ) (g : Gathered) where
     left-plain : Plain text i kind from len × (next ≡ i + len) → lex end g 0 i (drop i text) ≡ lex end (gather g (take len (drop from text)) i) 0 next (drop next text)
@@ -127,18 +126,12 @@ module _ (text : List ℕ) (i kind from len next : ℕ) (h : i < length text) (s
             lex-here text i end g h ∙ lex-chars end g i (get_or text i 0) (drop (i + 1) text) (take len (drop from text)) (next - (i + 1)) x
             ∙ lex-next end (gather g (take len (drop from text)) i)
 
-    pub left-bad : 9 < kind → lex end g 0 i (drop i text) ≡ refused (lex_error (error_shown text kind from) i)
-    unfolding shown pick
-    left-bad q =
-        let x : lexeme_at text i ≡ bad (error_shown text kind from) = is_lexeme (λ e. omega arith) ∙ rw (ne_eqb kind 1 (λ e. omega arith), ne_eqb kind 2 (λ e. omega arith), lt-leb kind 9 q) in
-        lex-here text i end g h ∙ lex-bad end g i (get_or text i 0) (drop (i + 1) text) (error_shown text kind from) x
-
-    pub left-token : (kind ≡ 1 → ⊥) → kind ≤ 9
+    pub left-token : (kind ≡ 1 → ⊥)
         → lex end g 0 i (drop i text)
         ≡ prepend (flush end g ++ (made text i kind from len (end + length g.text) ∷ []))
         (lex (end + length g.text + length (pool_text (made text i kind from len (end + length g.text)))) nothing_yet 0 next (drop next text))
     unfolding shown made pick pooled token
-    left-token n l = go (ℕ_discrete kind 2)
+    left-token n = go (ℕ_discrete kind 2)
       where
         go : Dec (kind ≡ 2)
             → lex end g 0 i (drop i text)
@@ -149,7 +142,7 @@ module _ (text : List ℕ) (i kind from len next : ℕ) (h : i < length text) (s
             lex-here text i end g h ∙ lex-reference end g i (get_or text i 0) (drop (i + 1) text) (take len (drop from text)) (next - (i + 1)) x
             ∙ rw (q, lex-next (end + length g.text + length (take len (drop from text))) nothing_yet)
         go (no q) =
-            let x = shown-mark n q l in
+            let x = shown-mark n q in
             let z : end + length g.text + 0 ≡ end + length g.text = omega arith in
             lex-here text i end g h ∙ lex-mark end g i (get_or text i 0) (drop (i + 1) text) kind (next - (i + 1)) x
             ∙ rw (ne_eqb kind 2 q, lt-leb kind 2 (mark-above x), z, lex-next (end + length g.text) nothing_yet)
@@ -162,17 +155,11 @@ pub record Left (text : List ℕ) (i : ℕ) : Type 0 where
   pub here : i ≤ length text
   pub rest : tokens text ≡ prepend ts (lex end g 0 i (drop i text))
 
-module _ (text : List ℕ) (i : ℕ) (L : Left text i) (kind from len next : ℕ) (h : i < length text) (s : Reads text i kind from len next) where
-  pub left-refused : 9 < kind → tokens text ≡ refused (lex_error (error_shown text kind from) i)
+-- a reference that can't be lexed at place i
+module _ (text : List ℕ) (i : ℕ) (x : LexError) (h : i < length text) (b : lexeme_at text i ≡ bad x) where
+  pub left-bad : (end : ℕ) (g : Gathered) → lex end g 0 i (drop i text) ≡ refused (lex_error x i)
+  left-bad end g = lex-here text i end g h ∙ lex-bad end g i (get_or text i 0) (drop (i + 1) text) x b
+
+  pub left-refused : Left text i → tokens text ≡ refused (lex_error x i)
   unfolding prepend
-  left-refused l = L.rest ∙ ap (prepend L.ts) (left-bad text i kind from len next h s L.end L.g l)
-
--- the error of a reference, by the kind of its lexeme
-module _ (text : List ℕ) (kind from : ℕ) where
-  pub error-open : kind ≡ 10 → missing_close_variable ≡ error_shown text kind from
-  unfolding error_shown pick
-  error-open q = rw q
-
-  pub error-char : (c : ℕ) → (kind ≡ 10 → ⊥) → c ≡ code_point (get_or text from 0) (drop (from + 1) text) → invalid_variable_char c ≡ error_shown text kind from
-  unfolding error_shown pick
-  error-char c n q = rw (ne_eqb kind 10 n, q)
+  left-refused L = L.rest ∙ ap (prepend L.ts) (left-bad L.end L.g)

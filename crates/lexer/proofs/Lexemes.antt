@@ -3,21 +3,25 @@ use Prim.Native.Nat.{ℕ, suc, ◌+◌, ◌-◌, ◌≤◌, ◌<◌}
 use mathlib.Core.Path.{◌≡◌, refl, ap, sym, ◌∙◌}
 use mathlib.Core.Bool.{Bool, true, false, not}
 use mathlib.Core.List.{List, [], ◌∷◌}
-use mathlib.Core.Logic.{inl, inr}
+use mathlib.Core.Logic.{◌⊎◌, inl, inr}
 use native.Mathlib.Omega.{arith}
 use native.Mathlib.Decide.{dec_lt}
 use lib.ListN.{length, take, drop, get_or, length-drop, drop_of_length-le}
 use lib.Seq.{drop-drop, length-take-le}
 use lib.Dec.{eqb}
-use borrow.Author.Tests.{eq-eqb, ne_eqb, lt-ltb, le-ltb, le-leb}
+use borrow.Author.Tests.{eq-eqb, ne_eqb, lt-ltb, le-ltb}
 use Rattle.rules.specs.Bytes.{pick, run}
-use Rattle.rules.specs.Lexing.{Class, chars, mark, is_identifier, is_line_end, class, second, comment, after_backslash, after_name, after_brace, after_dollar, lexeme}
+use Rattle.rules.specs.Lexing.{Class, chars, mark, bad, is_identifier, is_line_end, class, second, comment, after_backslash, after_name, after_brace, after_dollar, lexeme}
+use Rattle.rules.specs.Numbers.{missing_close_variable, invalid_variable_char}
+use Rattle.rules.specs.Utf8.{code_point}
 use Rattle.rules.proofs.LexingLaws.{second-le, run-le}
-use Rattle.scan.specs.Classes.{class_number, class_at}
+use Rattle.scan.specs.Classes.{class_number, class_at, number_of}
+use Rattle.scan.specs.declared.class.ByteClass.{ByteClass}
+use Rattle.scan.specs.declared.class.ByteClass.TheVariants.{Other, Identifier, Blank, Equals, Colon, Single, Double, Backslash, LineEnd, Dollar, Hash, OpenBrace, CloseBrace, Past}
 use Rattle.scan.proofs.Classes.{class-is, test, test-true, test-false, class-in, past_end, not-past}
 use Rattle.scan.proofs.Lists.{rest_at}
 use Rattle.lexer.specs.Marks.{OnRun}
-use Rattle.lexer.specs.Pieces.{lexeme_at, error_shown, shown, Shows, is_plain, Reads}
+use Rattle.lexer.specs.Pieces.{lexeme_at, shown, Shows, is_plain, Reads}
 
 -- how far a test holds, from place j on
 module _ (f : ℕ → Bool) (text : List ℕ) (j : ℕ) where
@@ -65,24 +69,6 @@ module _ (text : List ℕ) (j r : ℕ) (e : r ≡ class_at (drop j text)) where
 
   no-at : (c : Class) → j < length text → (r ≡ class_number c → ⊥) → test c (get_or text j 0) ≡ false
   no-at c h n = test-false c (get_or text j 0) (λ q. n (number h ∙ q))
-
-  -- a scan from place i on that has come to place j
-  module _ (i : ℕ) where
-    pub plain_more : r < 3 → OnRun is_plain text i j → OnRun is_plain text i (j + 1)
-    unfolding is_plain
-    plain_more l o = let h = within (λ p. omega arith) in on-more is_plain text i j o h (lt-ltb (class_number (class (get_or text j 0))) 3 (omega (arith, number h)))
-
-    pub plain-stop : 3 ≤ r → OnRun is_plain text i j → j ≡ i + run is_plain (drop i text)
-    unfolding is_plain
-    plain-stop l o = on-stop is_plain text i j o (λ h. le-ltb (class_number (class (get_or text j 0))) 3 (omega (arith, number h)))
-
-    pub name-more : r ≡ 1 → OnRun is_identifier text i j → OnRun is_identifier text i (j + 1)
-    unfolding class_number
-    name-more q o = let h = within (λ p. omega arith) in on-more is_identifier text i j o h (yes-at Class.identifier h q)
-
-    pub name-stop : (r ≡ 1 → ⊥) → OnRun is_identifier text i j → j ≡ i + run is_identifier (drop i text)
-    unfolding class_number
-    name-stop n o = on-stop is_identifier text i j o (λ h. no-at Class.identifier h n)
 
 comment-le : (bs : List ℕ) → comment bs ≤ length bs
 unfolding comment
@@ -196,30 +182,25 @@ module _ (text : List ℕ) (i end c : ℕ) (here : i + 2 ≤ length text) (d : e
         part = omega arith;
       }
 
-  pub reference-open : c ≡ 15 → Shows text i (after_brace (drop (i + 2) text)) 10 end 0 end
-  unfolding after_name shown error_shown pick
-  reference-open q =
-      let k : length text ≤ end = at-end text end c e q in
-      record { is_lexeme = rw (brace-by, drop_of_length-le text k); on = omega arith; inside = name-inside; after = omega arith; part = omega arith }
+  pub reference-open : c ≡ 15 → after_brace (drop (i + 2) text) ≡ bad missing_close_variable
+  unfolding after_name
+  reference-open q = let k : length text ≤ end = at-end text end c e q in rw (brace-by, drop_of_length-le text k)
 
-  pub reference-bad : (c ≡ 13 → ⊥) → (c ≡ 15 → ⊥) → Shows text i (after_brace (drop (i + 2) text)) 11 end 0 end
-  unfolding after_name shown error_shown pick class_number
-  reference-bad f g =
-      let h : end < length text = within text end c e g in
-      record { is_lexeme = rw (brace-by, rest_at text end h, no-at text end c e Class.close_brace h f); on = omega arith; inside = name-inside; after = omega arith; part = omega arith }
+  pub reference-bad : (p : ℕ) → (c ≡ 13 → ⊥) → (c ≡ 15 → ⊥) → p ≡ code_point (get_or text end 0) (drop (end + 1) text) → after_brace (drop (i + 2) text) ≡ bad (invalid_variable_char p)
+  unfolding after_name pick class_number
+  reference-bad p f g d = let h : end < length text = within text end c e g in rw (d, brace-by, rest_at text end h, no-at text end c e Class.close_brace h f)
 
 -- `$` at place i, by the class c of the next byte
 module _ (text : List ℕ) (i c : ℕ) (here : i < length text) (e : c ≡ class_at (drop (i + 1) text)) where
   pub brace-in : c ≡ 12 → i + 2 ≤ length text
   brace-in q = let h : i + 1 < length text = within text (i + 1) c e (λ p. omega arith) in omega arith
 
-  pub dollar-brace : (kind from len next : ℕ) → c ≡ 12 → Shows text i (after_brace (drop (i + 2) text)) kind from len next
-      → Shows text i (after_dollar (get_or text i 0) (drop (i + 1) text)) kind from len next
+  pub dollar-brace : c ≡ 12 → after_dollar (get_or text i 0) (drop (i + 1) text) ≡ after_brace (drop (i + 2) text)
   unfolding after_dollar pick class_number
-  dollar-brace kind from len next q s =
+  dollar-brace q =
       let h : i + 1 < length text = within text (i + 1) c e (λ p. omega arith) in
       let m : i + 1 + 1 ≡ i + 2 = omega arith in
-      rw (rest_at text (i + 1) h, yes-at text (i + 1) c e Class.open_brace h q, m) s
+      rw (rest_at text (i + 1) h, yes-at text (i + 1) c e Class.open_brace h q, m)
 
   pub dollar-two : c ≡ 10 → Shows text i (after_dollar (get_or text i 0) (drop (i + 1) text)) 1 i 1 (i + 2)
   unfolding after_dollar shown pick class_number
@@ -287,15 +268,56 @@ sign Class.colon b bs h l = refl
 sign Class.single b bs h l = refl
 sign Class.double b bs h l = refl
 
--- the lexeme at place i, by the class c of its first byte
-module _ (text : List ℕ) (i c : ℕ) (here : i < length text) (e : c ≡ class_at (drop i text)) where
-  by_number : c ≡ class_number (class (get_or text i 0))
-  by_number = number text i c e here
+-- the bytes that are text by themselves, by the class k
+pub plain-byte : (b : ℕ) (k : ByteClass) → number_of k ≡ class_number (class b) → (k ≡ Other) ⊎ (k ≡ Identifier) → true ≡ is_plain b
+unfolding is_plain
+plain-byte b k e (inl p) = let z : number_of k ≡ 0 = ap number_of p in sym (lt-ltb (class_number (class b)) 3 (omega arith))
+plain-byte b k e (inr p) = let z : number_of k ≡ 1 = ap number_of p in sym (lt-ltb (class_number (class b)) 3 (omega arith))
 
+above_plain : (k : ByteClass) → (k ≡ Other → ⊥) → (k ≡ Identifier → ⊥) → 3 ≤ number_of k
+above_plain Other f g = absurd (f refl)
+above_plain Identifier f g = absurd (g refl)
+above_plain Blank f g = omega arith
+above_plain Equals f g = omega arith
+above_plain Colon f g = omega arith
+above_plain Single f g = omega arith
+above_plain Double f g = omega arith
+above_plain Backslash f g = omega arith
+above_plain LineEnd f g = omega arith
+above_plain Dollar f g = omega arith
+above_plain Hash f g = omega arith
+above_plain OpenBrace f g = omega arith
+above_plain CloseBrace f g = omega arith
+above_plain Past f g = omega arith
+
+pub other-byte : (b : ℕ) (k : ByteClass) → number_of k ≡ class_number (class b) → (k ≡ Other → ⊥) → (k ≡ Identifier → ⊥) → false ≡ is_plain b
+unfolding is_plain
+other-byte b k e f g = sym (le-ltb (class_number (class b)) 3 (omega (arith, e, above_plain k f g)))
+
+-- by the classes that are none of these
+pub quiet : (k : ByteClass) → (k ≡ Blank → ⊥) → (k ≡ Equals → ⊥) → (k ≡ Colon → ⊥) → (k ≡ Single → ⊥) → (k ≡ Double → ⊥) → (k ≡ Backslash → ⊥) → (k ≡ LineEnd → ⊥) → (k ≡ Dollar → ⊥) → (k ≡ Hash → ⊥)
+    → 3 ≤ number_of k → number_of k < 12 → ⊥
+quiet Other a b c d e f g h i l m = omega arith
+quiet Identifier a b c d e f g h i l m = omega arith
+quiet Blank a b c d e f g h i l m = a refl
+quiet Equals a b c d e f g h i l m = b refl
+quiet Colon a b c d e f g h i l m = c refl
+quiet Single a b c d e f g h i l m = d refl
+quiet Double a b c d e f g h i l m = e refl
+quiet Backslash a b c d e f g h i l m = f refl
+quiet LineEnd a b c d e f g h i l m = g refl
+quiet Dollar a b c d e f g h i l m = h refl
+quiet Hash a b c d e f g h i l m = i refl
+quiet OpenBrace a b c d e f g h i l m = omega arith
+quiet CloseBrace a b c d e f g h i l m = omega arith
+quiet Past a b c d e f g h i l m = omega arith
+
+-- the lexeme at place i, by the class c of its first byte
+module _ (text : List ℕ) (i c : ℕ) (here : i < length text) (by_number : c ≡ class_number (class (get_or text i 0))) where
   by-class : (k : Class) → c ≡ class_number k → lexeme_at text i ≡ lexeme k (get_or text i 0) (drop (i + 1) text)
   by-class k q = ap (λ (x : Class). lexeme x (get_or text i 0) (drop (i + 1) text)) (class-is (get_or text i 0) k (sym by_number ∙ q))
 
-  plain-shows : (3 ≤ c → c < 12 → ⊥) → Shows text i (lexeme_at text i) 1 i 1 (i + 1)
+  pub plain-shows : (3 ≤ c → c < 12 → ⊥) → Shows text i (lexeme_at text i) 1 i 1 (i + 1)
   unfolding shown pick
   plain-shows f =
       let n = by_number in
@@ -321,20 +343,20 @@ module _ (text : List ℕ) (i c : ℕ) (here : i < length text) (e : c ≡ class
       let m : i + 1 - (i + 1) ≡ 0 = omega arith in
       record {
         is_lexeme = sign (class (get_or text i 0)) (get_or text i 0) (drop (i + 1) text) (omega arith) (omega arith)
-            ∙ rw (← n, m, ne_eqb c 1 (λ q. omega arith), ne_eqb c 2 (λ q. omega arith), le-leb c 9 (omega arith));
+            ∙ rw (← n, m, ne_eqb c 1 (λ q. omega arith), ne_eqb c 2 (λ q. omega arith));
         on = omega arith;
         inside = omega arith;
         after = omega arith;
         part = omega arith;
       }
 
-  pub lexeme-backslash : (kind from len next : ℕ) → c ≡ 8 → Shows text i (after_backslash (drop (i + 1) text)) kind from len next → Shows text i (lexeme_at text i) kind from len next
+  pub lexeme-backslash : c ≡ 8 → lexeme_at text i ≡ after_backslash (drop (i + 1) text)
   unfolding lexeme class_number
-  lexeme-backslash kind from len next q s = rw (by-class Class.backslash q) s
+  lexeme-backslash q = by-class Class.backslash q
 
-  pub lexeme-dollar : (kind from len next : ℕ) → c ≡ 10 → Shows text i (after_dollar (get_or text i 0) (drop (i + 1) text)) kind from len next → Shows text i (lexeme_at text i) kind from len next
+  pub lexeme-dollar : c ≡ 10 → lexeme_at text i ≡ after_dollar (get_or text i 0) (drop (i + 1) text)
   unfolding lexeme class_number
-  lexeme-dollar kind from len next q s = rw (by-class Class.dollar q) s
+  lexeme-dollar q = by-class Class.dollar q
 
   pub lexeme-newline : (n : ℕ) → c ≡ 9 → n ≡ i + 1 + second (get_or text i 0) (drop (i + 1) text) → Shows text i (lexeme_at text i) 9 i 1 n
   unfolding lexeme class_number shown pick
@@ -356,10 +378,9 @@ module _ (text : List ℕ) (i c : ℕ) (here : i < length text) (e : c ≡ class
 
 -- a run of bytes that are text by themselves, or else one lexeme
 module _ (text : List ℕ) (i : ℕ) where
-  pub reads-run : (r end : ℕ) → i < length text → r ≡ class_number (class (get_or text i 0)) → r < 3 → end ≡ i + 1 + run is_plain (drop (i + 1) text) → Reads text i 1 i (end - i) end
-  unfolding is_plain
-  reads-run r end here e l d =
-      let z = run_on is_plain text i here (lt-ltb (class_number (class (get_or text i 0))) 3 (omega arith)) in
+  pub reads-run : (end : ℕ) → i < length text → is_plain (get_or text i 0) ≡ true → end ≡ i + 1 + run is_plain (drop (i + 1) text) → Reads text i 1 i (end - i) end
+  reads-run end here t d =
+      let z = run_on is_plain text i here t in
       record {
         is_piece = inl (record { is_text = refl; is_from = refl; is_len = omega arith }, omega arith);
         on = omega arith;

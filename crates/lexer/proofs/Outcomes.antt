@@ -17,8 +17,9 @@ use Rattle.tokens.proofs.ReadBack.{read_back}
 use Rattle.lexer.specs.Lexes.{Room, Holds, Untouched, Lexes, error_of}
 use Rattle.lexer.specs.declared.LexError.{LexError}
 use Rattle.lexer.specs.declared.LexError.TheVariants.{MissingCloseVariable, InvalidVariableChar}
-use Rattle.lexer.specs.declared.Lexed.{Lexed}
-use Rattle.lexer.specs.declared.Lexed.TheVariants.{Tokens, Refused}
+use Rattle.std.specs.Prelude.{Result, Ok, Err}
+use Rattle.lexer.specs.declared.LexRefusal.{LexRefusal}
+use Rattle.lexer.specs.declared.Filled.{Filled}
 
 error-one : (a b : LexError) → error_of a ≡ error_of b → a ≡ b
 error-one MissingCloseVariable MissingCloseVariable e = refl
@@ -26,21 +27,21 @@ error-one MissingCloseVariable (InvalidVariableChar d) e = let z : ◌≡◌ {A 
 error-one (InvalidVariableChar c) MissingCloseVariable e = let z : ◌≡◌ {A = ℕ} 0 1 = cc in absurd (omega arith)
 error-one (InvalidVariableChar c) (InvalidVariableChar d) e = let q : c ≡ d = cc in ap InvalidVariableChar q
 
-pub lexes-one : (text ws pool ws₁ ws₂ pool₁ pool₂ : List ℕ) (r₁ r₂ : Lexed) → Lexes text ws ws₁ pool pool₁ r₁ → Lexes text ws ws₂ pool pool₂ r₂
+pub lexes-one : (text ws pool ws₁ ws₂ pool₁ pool₂ : List ℕ) (r₁ r₂ : Result Filled LexRefusal) → Lexes text ws ws₁ pool pool₁ r₁ → Lexes text ws ws₂ pool pool₂ r₂
     → (r₁ ≡ r₂) × (ws₁ ≡ ws₂) × (pool₁ ≡ pool₂)
-lexes-one text ws pool ws₁ ws₂ pool₁ pool₂ (Tokens c₁ u₁) (Tokens c₂ u₂) h k =
+lexes-one text ws pool ws₁ ws₂ pool₁ pool₂ (Ok f₁) (Ok f₂) h k =
     let e : h.ts ≡ k.ts = ok-one (sym h.is_tokens ∙ k.is_tokens) in (
-      ap₂ {C = Lexed} (λ (c u : ℕ). Tokens c u) (h.is_count ∙ ap length e ∙ sym k.is_count) (h.is_used ∙ ap (λ (ts : List Token). length (pool_of ts)) e ∙ sym k.is_used),
+      ap₂ {C = Result Filled LexRefusal} (λ (c u : ℕ). Ok (record { count = c; used = u })) (h.is_count ∙ ap length e ∙ sym k.is_count) (h.is_used ∙ ap (λ (ts : List Token). length (pool_of ts)) e ∙ sym k.is_used),
       h.is_ws ∙ ap (λ (ts : List Token). overwrite (entries ts) ws) e ∙ sym k.is_ws,
       h.is_pool ∙ ap (λ (ts : List Token). overwrite (pool_of ts) pool) e ∙ sym k.is_pool,
     )
-lexes-one text ws pool ws₁ ws₂ pool₁ pool₂ (Tokens c₁ u₁) (Refused e₂ p₂) h k = absurd (refused-ok (sym k.is_refused ∙ h.is_tokens))
-lexes-one text ws pool ws₁ ws₂ pool₁ pool₂ (Refused e₁ p₁) (Tokens c₂ u₂) h k = absurd (refused-ok (sym h.is_refused ∙ k.is_tokens))
-lexes-one text ws pool ws₁ ws₂ pool₁ pool₂ (Refused e₁ p₁) (Refused e₂ p₂) h k =
-    let q : ◌≡◌ {A = N.Result (List Token)} (N.refused (N.lex_error (error_of e₁) p₁)) (N.refused (N.lex_error (error_of e₂) p₂)) = sym h.is_refused ∙ k.is_refused in
-    let x : error_of e₁ ≡ error_of e₂ = cc in
-    let y : p₁ ≡ p₂ = cc in
-    (ap₂ {C = Lexed} (λ (e : LexError) (p : ℕ). Refused e p) (error-one e₁ e₂ x) y, h.same_ws ∙ sym k.same_ws, h.same_pool ∙ sym k.same_pool)
+lexes-one text ws pool ws₁ ws₂ pool₁ pool₂ (Ok f₁) (Err e₂) h k = absurd (refused-ok (sym k.is_refused ∙ h.is_tokens))
+lexes-one text ws pool ws₁ ws₂ pool₁ pool₂ (Err e₁) (Ok f₂) h k = absurd (refused-ok (sym h.is_refused ∙ k.is_tokens))
+lexes-one text ws pool ws₁ ws₂ pool₁ pool₂ (Err e₁) (Err e₂) h k =
+    let q : ◌≡◌ {A = N.Result (List Token)} (N.refused (N.lex_error (error_of e₁.error) e₁.at)) (N.refused (N.lex_error (error_of e₂.error) e₂.at)) = sym h.is_refused ∙ k.is_refused in
+    let x : error_of e₁.error ≡ error_of e₂.error = cc in
+    let y : e₁.at ≡ e₂.at = cc in
+    (ap₂ {C = Result Filled LexRefusal} (λ (e : LexError) (p : ℕ). Err (record { error = e; at = p })) (error-one e₁.error e₂.error x) y, h.same_ws ∙ sym k.same_ws, h.same_pool ∙ sym k.same_pool)
 
 -- after a text is lexed, workspace and pool are read as its tokens
 pub lexed-back : (text ws ws' pool pool' : List ℕ) (count used : ℕ) (h : Holds text ws ws' pool pool' count used) → decode count ws' pool' ≡ h.ts
@@ -58,12 +59,12 @@ module _ (text ws ws' pool pool' : List ℕ) (count used : ℕ) (r : Room text w
   entries_fit = omega (arith, count_fits, long_ws)
 
 -- by the answer that a caller matches on
-module _ (text ws ws' pool pool' : List ℕ) (r : Lexed) (h : Lexes text ws ws' pool pool' r) where
-  pub when-tokens : (count used : ℕ) → r ≡ Tokens count used → Holds text ws ws' pool pool' count used
-  when-tokens count used e = subst (Lexes text ws ws' pool pool') e h
+module _ (text ws ws' pool pool' : List ℕ) (r : Result Filled LexRefusal) (h : Lexes text ws ws' pool pool' r) where
+  pub when-tokens : (f : Filled) → r ≡ Ok f → Holds text ws ws' pool pool' f.count f.used
+  when-tokens f e = subst (Lexes text ws ws' pool pool') e h
 
-  pub when-refused : (e : LexError) (at : ℕ) → r ≡ Refused e at → Untouched text ws ws' pool pool' (error_of e) at
-  when-refused e at q = subst (Lexes text ws ws' pool pool') q h
+  pub when-refused : (e : LexRefusal) → r ≡ Err e → Untouched text ws ws' pool pool' (error_of e.error) e.at
+  when-refused e q = subst (Lexes text ws ws' pool pool') q h
 
-  pub when-entries-fit : (count used : ℕ) → r ≡ Tokens count used → Room text ws pool → 4 * count ≤ length ws'
-  when-entries-fit count used e m = entries_fit text ws ws' pool pool' count used m (when-tokens count used e)
+  pub when-entries-fit : (f : Filled) → r ≡ Ok f → Room text ws pool → 4 * f.count ≤ length ws'
+  when-entries-fit f e m = entries_fit text ws ws' pool pool' f.count f.used m (when-tokens f e)

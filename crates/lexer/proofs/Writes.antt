@@ -1,6 +1,7 @@
 -- Laws of writing one token. Assumes nothing.
 use Prim.Native.Nat.{ℕ, ◌+◌, ◌-◌, ◌*◌, ◌≤◌, ◌<◌}
-use mathlib.Core.Path.{◌≡◌, ◌∙◌}
+use mathlib.Core.Path.{◌≡◌, refl, sym, ap, ◌∙◌}
+use lib.Dec.{eqb}
 use mathlib.Core.List.{List, [], ◌∷◌}
 use native.Mathlib.Nat.{add-zero}
 use native.Mathlib.Omega.{arith}
@@ -11,7 +12,39 @@ use Rattle.rules.specs.Tokens.{token, pooled}
 use Rattle.scan.specs.Stores.{puts}
 use Rattle.scan.proofs.Lists.{length_part}
 use Rattle.tokens.specs.Entries.{entry, pool_text}
+use Rattle.tokens.specs.declared.TokenKind.{TokenKind}
+use Rattle.tokens.specs.declared.TokenKind.TheVariants.{Dropped, Text, Variable, Blank, Equals, Colon, SingleQuote, DoubleQuote, Backslash, NewLine}
+use Rattle.lexer.specs.Pieces.{kind_of}
 use Rattle.lexer.specs.Inner.{flushed, flushed_count, FlushRoom, made, PutRoom}
+
+-- a number tells the kind
+unfoldable by_kind : ℕ → TokenKind
+by_kind n =
+    pick (eqb n 1) Text
+    (pick (eqb n 2) Variable
+    (pick (eqb n 3) Blank
+    (pick (eqb n 4) Equals
+    (pick (eqb n 5) Colon
+    (pick (eqb n 6) SingleQuote
+    (pick (eqb n 7) DoubleQuote
+    (pick (eqb n 8) Backslash
+    (pick (eqb n 9) NewLine Dropped))))))))
+
+by_kind_lem : (k : TokenKind) → by_kind (kind_of k) ≡ k
+unfolding by_kind pick
+by_kind_lem Dropped = refl
+by_kind_lem Text = refl
+by_kind_lem Variable = refl
+by_kind_lem Blank = refl
+by_kind_lem Equals = refl
+by_kind_lem Colon = refl
+by_kind_lem SingleQuote = refl
+by_kind_lem DoubleQuote = refl
+by_kind_lem Backslash = refl
+by_kind_lem NewLine = refl
+
+pub kind_named : (k j : TokenKind) → kind_of k ≡ kind_of j → k ≡ j
+kind_named k j e = sym (by_kind_lem k) ∙ ap by_kind e ∙ by_kind_lem j
 
 -- gathered Text ends
 module _ (count start used source : ℕ) where

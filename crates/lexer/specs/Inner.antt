@@ -1,27 +1,22 @@
 -- What the contracts of the two passes cite. No public contract rests on it. Assumes nothing.
-use Rattle.std.specs.Prelude.{ℕ, ◌+◌, ◌-◌, ◌*◌, ◌≤◌, ◌≡◌, Bool, ◌||◌, List, [], ◌∷◌, length, take, drop, get_or, eqb, ltb}
+use Rattle.std.specs.Prelude.{ℕ, ◌+◌, ◌-◌, ◌*◌, ◌≤◌, ◌≡◌, Result, Ok, Err, List, [], ◌∷◌, length, take, drop, get_or, eqb, ltb}
 use Rattle.rules.specs.Bytes.{pick}
 use Rattle.rules.specs.Tokens.{Token, token, text_kind, variable_kind}
-use Rattle.rules.specs.Numbers.{ok, refused, lex_error}
-use Rattle.rules.specs.Lexing.{tokens}
+use Rattle.rules.specs.Numbers.{LexError, ok, refused, lex_error}
+use Rattle.rules.specs.Lexing.{bad, tokens}
 use Rattle.lexer.specs.Lexes.{Room, error_of}
-use Rattle.lexer.specs.declared.Verdict.{Verdict}
-use Rattle.lexer.specs.declared.Verdict.TheVariants.{Fine, Bad}
+use Rattle.lexer.specs.Pieces.{lexeme_at}
+use Rattle.lexer.specs.declared.LexRefusal.{LexRefusal}
 
 -- the text isn't refused
 pub record Accepted (text : List ℕ) : Type 0 where
   pub ts : List Token
   pub is_tokens : tokens text ≡ ok ts
 
--- it was found before, or a byte is `$`
-unfoldable pub has_dollar : Bool → List ℕ → Bool
-has_dollar found [] = found
-has_dollar found (b ∷ bs) = has_dollar (found || eqb b 36) bs
-
 -- the pass that looks for a refusal, by its answer
-abbrev pub Judges : List ℕ → Verdict → Type 0
-Judges text Fine = Accepted text
-Judges text (Bad e at) = tokens text ≡ refused (lex_error (error_of e) at)
+abbrev pub Judges : List ℕ → Result Unit LexRefusal → Type 0
+Judges text (Ok _) = Accepted text
+Judges text (Err r) = tokens text ≡ refused (lex_error (error_of r.error) r.at)
 
 -- the bytes that a piece of this kind gives to the pool, if it is Text
 unfoldable pub kept : List ℕ → ℕ → ℕ → ℕ → List ℕ
@@ -31,6 +26,10 @@ kept text kind from len = pick (eqb kind text_kind) (take len (drop from text)) 
 pub record KeepRoom (text pool : List ℕ) (i used : ℕ) : Type 0 where
   pub here : i ≤ length text
   pub fits : used + (length text - i) ≤ length pool
+
+-- at place i stands no reference that can't be lexed
+abbrev pub Sound : List ℕ → ℕ → Type 0
+Sound text i = (e : LexError) → lexeme_at text i ≡ bad e → ⊥
 
 -- what the pass that fills asks: room, and a text that isn't refused
 pub record Fillable (text ws pool : List ℕ) : Type 0 where

@@ -1,30 +1,38 @@
 -- What the contracts of the functions that read one piece of the text cite: four numbers show a lexeme of rules' `lexeme`, or a run of them. Assumes nothing.
-use Rattle.std.specs.Prelude.{ℕ, ◌+◌, ◌-◌, ◌≤◌, ◌<◌, ◌≡◌, Bool, List, ◌⊎◌, length, take, drop, get_or, eqb, ltb, leb}
+use Rattle.std.specs.Prelude.{ℕ, ◌+◌, ◌-◌, ◌≤◌, ◌<◌, ◌≡◌, Bool, List, ◌⊎◌, length, take, drop, get_or, eqb, ltb, Result, Ok, Err}
 use Rattle.rules.specs.Bytes.{pick, run}
-use Rattle.rules.specs.Tokens.{text_kind, variable_kind, new_line_kind}
-use Rattle.rules.specs.Numbers.{LexError, missing_close_variable, invalid_variable_char}
+use Rattle.rules.specs.Tokens.{text_kind, variable_kind, blank_kind, equals_kind, colon_kind, single_quote_kind, double_quote_kind, backslash_kind, new_line_kind}
 use Rattle.rules.specs.Lexing.{Lexeme, chars, reference, mark, bad, class, lexeme}
-use Rattle.rules.specs.Utf8.{code_point}
 use Rattle.scan.specs.Classes.{class_number}
+use Rattle.tokens.specs.declared.TokenKind.{TokenKind}
+use Rattle.tokens.specs.declared.TokenKind.TheVariants.{Dropped, Text, Variable, Blank, Equals, Colon, SingleQuote, DoubleQuote, Backslash, NewLine}
+use Rattle.lexer.specs.declared.LexError.{LexError}
+use Rattle.lexer.specs.declared.lexeme.Piece.{Piece}
+use Rattle.lexer.specs.Lexes.{error_of}
 
 -- the lexeme at place i of the text
 abbrev pub lexeme_at : List ℕ → ℕ → Lexeme
 lexeme_at text i = lexeme (class (get_or text i 0)) (get_or text i 0) (drop (i + 1) text)
 
--- kinds above those of tokens: a reference that isn't closed; any other is one with a bad character, which stands at `from`
-abbrev pub not_closed : ℕ
-not_closed = 10
-
-unfoldable pub error_shown : List ℕ → ℕ → ℕ → LexError
-error_shown text kind from = pick (eqb kind not_closed) missing_close_variable (invalid_variable_char (code_point (get_or text from 0) (drop (from + 1) text)))
+-- the number of a kind
+abbrev pub kind_of : TokenKind → ℕ
+kind_of Dropped = 0
+kind_of Text = text_kind
+kind_of Variable = variable_kind
+kind_of Blank = blank_kind
+kind_of Equals = equals_kind
+kind_of Colon = colon_kind
+kind_of SingleQuote = single_quote_kind
+kind_of DoubleQuote = double_quote_kind
+kind_of Backslash = backslash_kind
+kind_of NewLine = new_line_kind
 
 -- the lexeme that four numbers show, where it starts at place i: its text is the `len` bytes from `from` on, and the next starts at `next`
 unfoldable pub shown : List ℕ → ℕ → ℕ → ℕ → ℕ → ℕ → Lexeme
 shown text i kind from len next =
     pick (eqb kind text_kind) (chars (take len (drop from text)) (next - (i + 1)))
     (pick (eqb kind variable_kind) (reference (take len (drop from text)) (next - (i + 1)))
-    (pick (leb kind new_line_kind) (mark kind (next - (i + 1)))
-    (bad (error_shown text kind from))))
+    (mark kind (next - (i + 1))))
 
 -- the numbers show the lexeme x, and stay within the text
 pub record Shows (text : List ℕ) (i : ℕ) (x : Lexeme) (kind from len next : ℕ) : Type 0 where
@@ -33,6 +41,11 @@ pub record Shows (text : List ℕ) (i : ℕ) (x : Lexeme) (kind from len next : 
   pub inside : next ≤ length text
   pub after : i ≤ from
   pub part : from + len ≤ next
+
+-- what reading the lexeme x answers: the piece that shows it, or the error of a reference
+abbrev pub Answers : List ℕ → ℕ → Lexeme → Result Piece LexError → Type 0
+Answers text i x (Ok p) = Shows text i x (kind_of p.kind) p.from p.len p.next
+Answers text i x (Err e) = x ≡ bad (error_of e)
 
 -- identifier and other bytes, which are text by themselves: their classes are below those of tokens
 unfoldable pub is_plain : ℕ → Bool

@@ -1,117 +1,57 @@
-// Long runs of bytes, a block at a time. All bytes of a block are looked at, with no early end and no branch: the compiler makes that a few operations on
-// 16 bytes at once. So tests are added up as numbers, and the numbers of all bytes laid one over another by `|`: of `bool`s it makes branches.
-ghost use Rattle.std.specs.Prelude.{◌≡◌, ◌+◌, ◌≤◌, length, drop};
+// Runs of bytes. Short ones are passed byte by byte. Long ones are passed a block at a time: all bytes of a block are looked at, with no early end, which
+// the compiler makes a few operations on 16 bytes at once. So a test of a byte has `|` and not `||`, of which the compiler makes branches.
+ghost use Rattle.std.specs.Prelude.{◌≡◌, ◌+◌, ◌≤◌, ◌<◌, ℕ, Bool, false, length, drop, get_or};
 ghost use Rattle.rules.specs.Bytes.{run};
-ghost use Rattle.lexer.specs.Marks.{one, line_marks, text_marks, dollar_marks, marks_of, marks_over, unmarked, OnRun};
+ghost use Rattle.lexer.specs.Marks.{free};
 
-#[derive(Clone, Copy)]
-pub struct Block;
+// the bytes of a block
+const BLOCK: usize = 16;
 
-impl Block {
-    // the bytes of a block
-    pub const LEN: usize = 16;
-
-    // so many bytes of a run of text are read one by one, before any block: most runs end there
-    pub const NEAR: usize = 32;
-}
-
-// The bytes that are looked for.
-#[derive(Clone, Copy)]
-pub struct Seek;
-
-impl Seek {
-    // where a comment ends
-    pub const LINE_END: u8 = 0;
-
-    // where a run of text may end
-    pub const TEXT_END: u8 = 1;
-
-    // `$`, and what may hide one
-    pub const DOLLAR: u8 = 2;
-}
-
-fn one_if(t: bool) -> u8
-    ensures { (result ≡ one t) × (result ≤ 1) }
+// Past the bytes from place i on that pass the test.
+pub fn run_end<F: Fn(u8) -> bool>(passes: F, text: &[u8], i: usize) -> usize
+    requires callable { F.IsAlwaysCallable passes }
+    requires inside { i ≤ length text.now }
+    ensures { (p : ℕ → Bool) → ((b : ℕ) (r : Bool) → F.post passes b r → r ≡ p b) → result ≡ i + run p (drop i text.now) }
 {
-    if t { 1 } else { 0 }
-}
-
-fn line_marks(b: u8) -> u8
-    ensures { result ≡ line_marks b }
-{
-    one_if(b == b'\n') + one_if(b == b'\r')
-}
-
-fn text_marks(b: u8) -> u8
-    ensures { result ≡ text_marks b }
-{
-    one_if(b < b'(')
-        + one_if(b == b':')
-        + one_if(b == b'=')
-        + one_if(b == b'\\')
-        + one_if(b == b'{')
-        + one_if(b == b'}')
-}
-
-fn dollar_marks(b: u8) -> u8
-    ensures { result ≡ dollar_marks b }
-{
-    one_if(b == b'#') + one_if(b == b'$') + one_if(b == b'\\')
-}
-
-// The marks of a byte: 0 where it is none of those that are looked for.
-fn marks(seek: u8, b: u8) -> u8
-    ensures { result ≡ marks_of seek b }
-{
-    if seek == Seek::LINE_END {
-        return line_marks(b);
+    for j in i..text.len() {
+        if !passes(text[j]) {
+            return j;
+        }
     }
-    if seek == Seek::TEXT_END {
-        return text_marks(b);
-    }
-    dollar_marks(b)
+    text.len()
 }
 
-// Whether any byte of the block has a mark: 0 where none has.
-fn marks_in(seek: u8, block: &[u8]) -> u8
-    ensures { result ≡ marks_over (marks_of seek) 0 block.now }
+// Whether any byte is one that is looked for. All are looked at, with no early end.
+pub fn any_in<F: Fn(u8) -> bool>(stops: &F, block: &[u8]) -> bool
+    requires { F.IsAlwaysCallable stops.now }
+    ensures { (p : ℕ → Bool) → ((b : ℕ) (r : Bool) → F.post stops.now b r → r ≡ p b) → result ≡ false → (k : ℕ) → k < length block.now → p (get_or block.now k 0) ≡ false }
 {
-    let mut seen = 0;
-    let mut i = 0;
-    while i < block.len() {
-        seen = seen | marks(seek, block[i]);
-        i += 1;
+    let mut seen = false;
+    for b in block {
+        seen |= stops(*b);
     }
     seen
 }
 
-// Past the whole blocks from place i on in which no byte has a mark.
-fn blocks_end(seek: u8, text: &[u8], i: usize) -> usize
-    requires { i ≤ length text.now }
-    ensures { OnRun (unmarked seek) text.now i result }
+// Past the bytes from place i on that are none of those that are looked for, which `stops` tells.
+pub fn next_stop<F: Fn(u8) -> bool>(stops: F, text: &[u8], i: usize) -> usize
+    requires callable { F.IsAlwaysCallable stops }
+    requires inside { i ≤ length text.now }
+    ensures { (p : ℕ → Bool) → ((b : ℕ) (r : Bool) → F.post stops b r → r ≡ p b) → result ≡ i + run (free p) (drop i text.now) }
 {
     let mut j = i;
-    while Block::LEN <= text.len() - j {
-        let end = j + Block::LEN;
-        if 0 < marks_in(seek, &text[j..end]) {
-            return j;
+    // Kept: a `while`, as the place where the blocks end is used below.
+    while BLOCK <= text.len() - j {
+        let end = j + BLOCK;
+        if any_in(&stops, &text[j..end]) {
+            break;
         }
         j = end;
     }
-    j
-}
-
-// Past the bytes from place i on that have no mark.
-pub fn unmarked_end(seek: u8, text: &[u8], i: usize) -> usize
-    requires { i ≤ length text.now }
-    ensures { result ≡ i + run (unmarked seek) (drop i text.now) }
-{
-    let mut j = blocks_end(seek, text, i);
-    while j < text.len() {
-        if 0 < marks(seek, text[j]) {
-            return j;
+    for k in j..text.len() {
+        if stops(text[k]) {
+            return k;
         }
-        j += 1;
     }
-    j
+    text.len()
 }

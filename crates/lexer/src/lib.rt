@@ -2,115 +2,142 @@
 #![tactic(auto)]
 
 pub mod blocks;
-pub mod keep;
+mod keep;
 pub mod lexeme;
 
-ghost use Rattle.std.specs.Prelude.{◌≡◌, false, ◌||◌, ◌+◌, ◌*◌, ◌≤◌, ◌<◌, length, eqb};
-ghost use Rattle.rules.specs.Bytes.{pick};
-ghost use Rattle.scan.specs.Classes.{ClassTable};
+ghost use Rattle.std.specs.Prelude.{◌≡◌, ◌+◌, ◌*◌, ◌≤◌, ◌<◌, length, drop, eqb};
+ghost use Rattle.rules.specs.Bytes.{pick, run};
+ghost use Rattle.lexer.specs.Marks.{free, dollar_stop};
 ghost use Rattle.scan.specs.Stores.{puts};
 ghost use Rattle.tokens.specs.Entries.{entry, pool_text};
-ghost use Rattle.lexer.specs.Lexes.{Room, Holds, Lexes, error_of};
-ghost use Rattle.lexer.specs.Pieces.{error_shown};
-ghost use Rattle.lexer.specs.Inner.{has_dollar, Judges, Fillable, flushed, flushed_count, FlushRoom, made, PutRoom};
+ghost use Rattle.lexer.specs.Lexes.{Room, Holds, Lexes, refusal_of};
+ghost use Rattle.lexer.specs.Pieces.{kind_of};
+ghost use Rattle.lexer.specs.Inner.{Judges, Fillable, flushed, flushed_count, FlushRoom, made, PutRoom};
 
-use blocks::{Seek, unmarked_end};
+use answers::Refusal;
+use blocks::{any_in, next_stop};
 use keep::{keep_piece, keep_text};
 use lexeme::{Piece, backslash_at, comment_end, dollar_at};
-use scan::class::{ByteClass, CLASS, class_in};
+use scan::class::{ByteClass, class_of};
 use scan::store::put4;
 use tokens::TokenKind;
-use utf8::code_point_at;
 
 // Why a text can't be lexed.
-#[derive(Clone, Copy)]
+#[derive(Clone, Copy, Debug, PartialEq, Eq)]
 pub enum LexError {
     MissingCloseVariable,
     // with the code point
     InvalidVariableChar(u32),
 }
 
-// What lexing answers.
-#[derive(Clone, Copy)]
-pub enum Lexed {
-    // the number of tokens, and of bytes in the pool
-    Tokens(usize, usize),
-    // with the place of the `$`
-    Refused(LexError, usize),
+// The first refusal: why, and the place of the `$`.
+#[derive(Clone, Copy, Debug, PartialEq, Eq)]
+pub struct LexRefusal {
+    pub error: LexError,
+    pub at: usize,
 }
 
-// What the first pass finds.
-#[derive(Clone, Copy)]
-pub enum Verdict {
-    Fine,
-    // the first refusal, with the place of the `$`
-    Bad(LexError, usize),
-}
+// Answer 5, or 6 with its code point.
+impl From<LexRefusal> for Refusal {
+    ghost from_gives = { λ r e. e ≡ refusal_of r.error };
 
-// The error of a reference, by the kind of its lexeme.
-fn error_at(text: &[u8], kind: u32, from: usize) -> LexError
-    ensures { error_of result ≡ error_shown text.now kind from }
-{
-    if kind == Piece::NOT_CLOSED {
-        return LexError::MissingCloseVariable;
+    fn from(r: LexRefusal) -> Refusal {
+        match r.error {
+            LexError::MissingCloseVariable => Refusal::MissingCloseVariable,
+            LexError::InvalidVariableChar(c) => Refusal::InvalidVariableChar(c),
+        }
     }
-    let c = code_point_at(text, from);
-    LexError::InvalidVariableChar(c)
+}
+
+// At a `$`, or what may hide one.
+fn dollar_end(text: &[u8], i: usize) -> usize
+    requires { i ≤ length text.now }
+    ensures { result ≡ i + run (free dollar_stop) (drop i text.now) }
+{
+    next_stop(|b| (b == b'#') | (b == b'$') | (b == b'\\'), text, i)
 }
 
 // The first pass. Only `$` can be refused, and only `#` and a backslash can hide one: the other bytes are passed.
-fn find_refusal(table: &[u8; 256], text: &[u8]) -> Verdict
-    requires { ClassTable table.now }
+fn find_refusal(text: &[u8]) -> Result<(), LexRefusal>
     ensures { Judges text.now result }
 {
     let mut i = 0;
+    // Kept: a `while`, as a turn passes any number of bytes.
     while i < text.len() {
-        let c = class_in(table, text[i]);
-        if c == ByteClass::DOLLAR {
-            let p = dollar_at(table, text, i);
-            let kind = p.kind;
-            if TokenKind::NEW_LINE < kind {
-                let from = p.from;
-                let e = error_at(text, kind, from);
-                return Verdict::Bad(e, i);
-            }
-            i = p.next;
-        } else if c == ByteClass::HASH {
-            i = comment_end(text, i + 1);
-        } else if c == ByteClass::BACKSLASH {
-            let p = backslash_at(table, text, i);
-            i = p.next;
-        } else {
-            i = unmarked_end(Seek::DOLLAR, text, i + 1);
-        }
+        i = match class_of(text[i]) {
+            ByteClass::Dollar => match dollar_at(text, i) {
+                Ok(piece) => piece.next,
+                Err(error) => return Err(LexRefusal { error, at: i }),
+            },
+            ByteClass::Hash => comment_end(text, i + 1),
+            ByteClass::Backslash => backslash_at(text, i).next,
+            _ => dollar_end(text, i + 1),
+        };
     }
-    Verdict::Fine
+    Ok(())
 }
 
-// Where gathered Text has its first byte from, as more comes from place `at`.
-fn first_source(start: usize, used: usize, source: usize, at: usize) -> usize
-    ensures { result ≡ pick (eqb start used) at source }
-{
-    if start == used { at } else { source }
+// Text that is gathered from pieces: it stands in the pool from `start` up to `end`, and its first byte comes from place `source` of the text.
+#[derive(Clone, Copy)]
+struct Gathered {
+    start: usize,
+    end: usize,
+    source: usize,
+}
+
+impl Gathered {
+    // No text yet; what comes goes to the pool from this place on.
+    fn none(start: usize) -> Gathered
+        ensures { result ≡ record { start = start; end = start; source = 0 } }
+    {
+        Gathered {
+            start,
+            end: start,
+            source: 0,
+        }
+    }
+
+    // With `len` more bytes, from place `at` of the text.
+    fn with(self, at: usize, len: usize) -> Gathered
+        requires { self.end + len < 18446744073709551616 }
+        ensures { result ≡ record { start = self.start; end = self.end + len; source = pick (eqb self.start self.end) at self.source } }
+    {
+        let end = self.end + len;
+        if self.start == self.end {
+            return Gathered {
+                end,
+                source: at,
+                ..self
+            };
+        }
+        Gathered { end, ..self }
+    }
 }
 
 // Gathered Text ends: its token, where there is any. Returns the number of tokens.
-fn flush_text(ws: &mut [u32], count: usize, start: usize, used: usize, source: usize) -> usize
-    requires { FlushRoom ws.old count start used source }
-    ensures { (result ≡ count + flushed_count start used) × (ws.new ≡ puts ws.old (4 * count) (flushed start used source)) }
+fn flush_text(ws: &mut [u32], count: usize, text: Gathered) -> usize
+    requires { FlushRoom ws.old count text.start text.end text.source }
+    ensures { (result ≡ count + flushed_count text.start text.end) × (ws.new ≡ puts ws.old (4 * count) (flushed text.start text.end text.source)) }
 {
-    if start < used {
+    if text.start < text.end {
         put4(
             ws,
             4 * count,
-            TokenKind::TEXT,
-            start as u32,
-            (used - start) as u32,
-            source as u32,
+            TokenKind::Text as u32,
+            text.start as u32,
+            (text.end - text.start) as u32,
+            text.source as u32,
         );
         return count + 1;
     }
     count
+}
+
+// The number of a kind, as the workspace holds it.
+fn kind_number(kind: TokenKind) -> u32
+    ensures { result ≡ kind_of kind }
+{
+    kind as u32
 }
 
 // A token that isn't Text, at place i. Returns the pool's end.
@@ -119,117 +146,80 @@ fn put_token(
     ws: &mut [u32],
     pool: &mut [u8],
     i: usize,
-    kind: u32,
-    from: usize,
-    len: usize,
+    piece: Piece,
     count: usize,
     used: usize,
 ) -> usize
-    requires { PutRoom text.now ws.old pool.old i kind from len count used }
-    ensures { (result ≡ used + length (pool_text (made text.now i kind from len used)))
-        × (ws.new ≡ puts ws.old (4 * count) (entry (made text.now i kind from len used)))
-        × (pool.new ≡ puts pool.old used (pool_text (made text.now i kind from len used))) }
+    requires { PutRoom text.now ws.old pool.old i (kind_of piece.kind) piece.from piece.len count used }
+    ensures { (result ≡ used + length (pool_text (made text.now i (kind_of piece.kind) piece.from piece.len used)))
+        × (ws.new ≡ puts ws.old (4 * count) (entry (made text.now i (kind_of piece.kind) piece.from piece.len used)))
+        × (pool.new ≡ puts pool.old used (pool_text (made text.now i (kind_of piece.kind) piece.from piece.len used))) }
 {
-    if kind == TokenKind::VARIABLE {
-        put4(ws, 4 * count, kind, used as u32, len as u32, i as u32);
-        keep_text(text, from, len, pool, used);
-        return used + len;
+    let kind = kind_number(piece.kind);
+    match piece.kind {
+        TokenKind::Variable => {
+            put4(ws, 4 * count, kind, used as u32, piece.len as u32, i as u32);
+            keep_text(text, piece.from, piece.len, pool, used);
+            used + piece.len
+        }
+        _ => {
+            put4(ws, 4 * count, kind, text[i] as u32, 1, i as u32);
+            used
+        }
     }
-    let b = text[i] as u32;
-    put4(ws, 4 * count, kind, b, 1, i as u32);
-    used
 }
 
 // How many tokens the workspace holds, and how many bytes of text the pool.
-#[derive(Clone, Copy)]
+#[derive(Clone, Copy, Debug, PartialEq, Eq)]
 pub struct Filled {
     pub count: usize,
     pub used: usize,
 }
 
 // The second pass: the tokens of a text that isn't refused.
-fn fill(table: &[u8; 256], text: &[u8], ws: &mut [u32], pool: &mut [u8]) -> Filled
-    requires { ClassTable table.now × Fillable text.now ws.old pool.old }
+fn fill(text: &[u8], ws: &mut [u32], pool: &mut [u8]) -> Filled
+    requires { Fillable text.now ws.old pool.old }
     ensures { Holds text.now ws.old ws.new pool.old pool.new result.count result.used }
 {
     let mut i = 0;
     let mut count = 0;
-    let mut start = 0;
-    let mut used = 0;
-    let mut source = 0;
+    let mut gathered = Gathered::none(0);
+    // Kept: a `while`, as a piece has any number of bytes.
     while i < text.len() {
-        let p = keep_piece(table, text, i, pool, used);
-        let kind = p.kind;
-        let from = p.from;
-        let len = p.len;
-        if kind == TokenKind::TEXT {
-            source = first_source(start, used, source, i);
-            used = used + len;
-        } else {
-            count = flush_text(ws, count, start, used, source);
-            used = put_token(text, ws, pool, i, kind, from, len, count, used);
-            count = count + 1;
-            start = used;
-            source = 0;
+        let piece = keep_piece(text, i, pool, gathered.end);
+        match piece.kind {
+            TokenKind::Text => gathered = gathered.with(i, piece.len),
+            _ => {
+                count = flush_text(ws, count, gathered);
+                let end = put_token(text, ws, pool, i, piece, count, gathered.end);
+                count += 1;
+                gathered = Gathered::none(end);
+            }
         }
-        i = p.next;
+        i = piece.next;
     }
-    count = flush_text(ws, count, start, used, source);
-    Filled { count, used }
-}
-
-fn either(a: bool, b: bool) -> bool
-    ensures { result ≡ (a || b) }
-{
-    if a { true } else { b }
-}
-
-// Whether there is a `$`.
-fn has_dollar(text: &[u8]) -> bool
-    ensures { result ≡ has_dollar false text.now }
-{
-    let mut found = false;
-    let mut i = 0;
-    while i < text.len() {
-        found = either(found, text[i] == b'$');
-        i += 1;
+    count = flush_text(ws, count, gathered);
+    Filled {
+        count,
+        used: gathered.end,
     }
-    found
 }
 
 // The first pass, which only a text with a `$` needs.
-fn judge(table: &[u8; 256], text: &[u8]) -> Verdict
-    requires { ClassTable table.now }
+fn judge(text: &[u8]) -> Result<(), LexRefusal>
     ensures { Judges text.now result }
 {
-    if has_dollar(text) {
-        return find_refusal(table, text);
+    if any_in(&|b| b == b'$', text) {
+        return find_refusal(text);
     }
-    Verdict::Fine
+    Ok(())
 }
 
-// Both passes, by a table of the classes of bytes.
-fn lex_by(table: &[u8; 256], text: &[u8], ws: &mut [u32], pool: &mut [u8]) -> Lexed
-    requires { ClassTable table.now × Room text.now ws.old pool.old }
-    ensures { Lexes text.now ws.old ws.new pool.old pool.new result }
-{
-    let v = judge(table, text);
-    match v {
-        Verdict::Bad(e, at) => Lexed::Refused(e, at),
-        Verdict::Fine => {
-            let f = fill(table, text, ws, pool);
-            let count = f.count;
-            let used = f.used;
-            Lexed::Tokens(count, used)
-        }
-    }
-}
-
-// The whole text. Nothing is written where it is refused. The table is made once, and lent.
-pub fn lex(text: &[u8], ws: &mut [u32], pool: &mut [u8]) -> Lexed
+// The whole text: a pass that looks for the first refusal, and one that fills workspace and pool. Nothing is written where it is refused.
+pub fn lex(text: &[u8], ws: &mut [u32], pool: &mut [u8]) -> Result<Filled, LexRefusal>
     requires { Room text.now ws.old pool.old }
     ensures { Lexes text.now ws.old ws.new pool.old pool.new result }
 {
-    let table = CLASS;
-    lex_by(&table, text, ws, pool)
+    judge(text)?;
+    Ok(fill(text, ws, pool))
 }

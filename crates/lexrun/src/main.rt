@@ -3,11 +3,12 @@
 // A line end LF is shown as `|`, CR as `%`, a space as `_`, a tab as `~`.
 #![tactic(auto)]
 
-ghost use Rattle.std.specs.Prelude.{◌*◌, ◌≤◌, length};
-
-use lexer::{LexError, Lexed};
+use lexer::{Filled, LexError, LexRefusal};
+use scan::column::part;
 use std::io;
 use std::io::Write;
+use tokens::TokenKind;
+use tokens::table::Table;
 
 fn shown(b: u8) -> u8 {
     match b {
@@ -30,41 +31,23 @@ fn print_bytes<W: Write>(out: &mut W, bytes: &[u8]) -> io::Result<()> {
     Ok(())
 }
 
-fn print_token<W: Write>(
-    out: &mut W,
-    ws: &[u32],
-    pool: &[u8],
-    count: usize,
-    j: usize,
-) -> io::Result<()>
-    requires { 4 * count ≤ length ws.now }
-{
-    let kind = tokens::kind_at(ws, count, j);
-    let place = tokens::place_at(ws, count, j);
-    let source = tokens::source_at(ws, count, j);
-    write!(out, " {kind}.{place}.")?;
-    if kind <= tokens::TokenKind::VARIABLE {
-        print_bytes(out, tokens::text_at(ws, pool, count, j))?;
+fn print_token<W: Write>(out: &mut W, tokens: &Table, j: usize) -> io::Result<()> {
+    let kind = tokens.kind(j);
+    write!(out, " {kind}.{}.", tokens.place(j))?;
+    if kind <= TokenKind::Variable as u32 {
+        print_bytes(out, tokens.text(j))?;
     } else {
-        print_byte(out, tokens::byte_at(ws, count, j))?;
+        print_byte(out, tokens.byte(j))?;
     }
-    write!(out, ".{source}")
+    write!(out, ".{}", tokens.source(j))
 }
 
-fn print_tokens<W: Write>(
-    out: &mut W,
-    ws: &[u32],
-    pool: &[u8],
-    count: usize,
-    used: usize,
-) -> io::Result<()>
-    requires { 4 * count ≤ length ws.now }
-{
+fn print_tokens<W: Write>(out: &mut W, tokens: &Table, pool: &[u8]) -> io::Result<()> {
     out.write_all(b"0 <")?;
-    print_bytes(out, scan::column::part(pool, 0, used))?;
+    print_bytes(out, pool)?;
     out.write_all(b">")?;
-    for j in 0..count {
-        print_token(out, ws, pool, count, j)?;
+    for j in 0..tokens.len() {
+        print_token(out, tokens, j)?;
     }
     Ok(())
 }
@@ -87,10 +70,11 @@ fn run<W: Write>(out: &mut W, text: &[u8], ws: &mut [u32], pool: &mut [u8]) -> i
     if pool.len() < n {
         return Ok(());
     }
-    let r = lexer::lex(text, ws, pool);
-    match r {
-        Lexed::Refused(e, at) => print_refusal(out, e, at)?,
-        Lexed::Tokens(count, used) => print_tokens(out, ws, pool, count, used)?,
+    match lexer::lex(text, ws, pool) {
+        Err(LexRefusal { error, at }) => print_refusal(out, error, at)?,
+        Ok(Filled { count, used }) => {
+            print_tokens(out, &Table::new(ws, pool, count), part(pool, 0, used))?
+        }
     }
     out.write_all(b"\n")
 }

@@ -14,10 +14,10 @@ use Rattle.rules.specs.Tokens.{Token, no_name, is_a}
 use Rattle.rules.specs.Lines.{Part, as_part, listed}
 use Rattle.scan.proofs.Lists.{cell_in, cell-past}
 use Rattle.tokens.specs.Entries.{decode, token_at}
-use Rattle.tokens.proofs.TokenLaws.{decode-same}
+use Rattle.tokens.proofs.TokenLaws.{decode-same, decode-take}
 use Rattle.workspace.specs.Map.{dropped_kind, parts_of, between, parts_between, starts_of, ends_of, arguments_from}
 use Rattle.lines.specs.Rows.{has_parts, Keeps}
-use Rattle.lines.proofs.Tokens.{decode-take, between-drop}
+use Rattle.lines.proofs.Tokens.{between-drop}
 
 pub parts-append : (ts us : List Token) → parts_of (ts ++ us) ≡ parts_of ts ++ parts_of us
 unfolding parts_of pick

@@ -1,25 +1,17 @@
 -- Laws of tokens as they are read: parts of them, and kinds. Assumes nothing.
 use Prim.Native.Nat.{ℕ, zero, suc, ◌-◌, ◌≤◌, ◌<◌}
-use mathlib.Core.Path.{◌≡◌, refl, sym, ◌∙◌, ap}
+use mathlib.Core.Path.{◌≡◌, sym, ◌∙◌, ap}
 use mathlib.Core.Bool.{true, false}
-use mathlib.Core.List.{List, [], ◌∷◌, ◌++◌}
+use mathlib.Core.List.{List, [], ◌∷◌}
 use native.Mathlib.Nat.{sub-zero}
-use native.Mathlib.Decide.{dec_lt}
 use native.Mathlib.Omega.{arith}
-use lib.ListN.{length, get_or, take, drop, take-append-drop}
-use lib.Seq.{get_or-take, length-take-le, take-nil, drop-append-le}
+use lib.ListN.{take, drop}
+use lib.Seq.{get_or-take, take-nil}
 use borrow.Author.Tests.{eq-eqb, ne_eqb}
 use Rattle.rules.specs.Tokens.{Token, no_name, is_a}
-use Rattle.tokens.specs.Entries.{from_entry, decode, token_at, kind_at}
-use Rattle.tokens.proofs.TokenLaws.{length-decode, kind-at, kind-by, entry_past}
+use Rattle.tokens.specs.Entries.{decode, token_at, kind_at}
+use Rattle.tokens.proofs.TokenLaws.{kind-at, kind-by, entry_past, decode-take}
 use Rattle.workspace.specs.Map.{between}
-
--- the first tokens of those
-pub decode-take : (end count : ℕ) (ws pool : List ℕ) → end ≤ count → decode end ws pool ≡ take end (decode count ws pool)
-unfolding decode
-decode-take zero count ws pool h = refl
-decode-take (suc e) zero ws pool h = absurd (omega arith)
-decode-take (suc e) (suc c) ws pool h = ap (λ (l : List Token). from_entry (get_or ws 0 0) (get_or ws 1 0) (get_or ws 2 0) (get_or ws 3 0) pool ∷ l) (decode-take e c (drop 4 ws) pool (omega arith))
 
 pub token-inside : (end count : ℕ) (ws pool : List ℕ) (j : ℕ) → end ≤ count → j < end → token_at (decode end ws pool) j ≡ token_at (decode count ws pool) j
 token-inside end count ws pool j h q = ap (λ (l : List Token). token_at l j) (decode-take end count ws pool h) ∙ get_or-take end (decode count ws pool) j no_name q
@@ -29,14 +21,6 @@ kind-inside end count ws j h q = kind-at end ws [] j ∙ ap (λ (t : Token). t.k
 
 pub kind-past : (count : ℕ) (ws : List ℕ) (j : ℕ) → count ≤ j → kind_at count ws j ≡ 0
 kind-past count ws j h = kind-by count ws j ∙ sym (entry_past count ws j 0 h)
-
--- a kind that is not 0 is that of a token
-pub kind-live : (count : ℕ) (ws : List ℕ) (j : ℕ) → (kind_at count ws j ≡ 0 → ⊥) → j < count
-kind-live count ws j h = go (dec_lt j count)
-  where
-    go : Dec (j < count) → j < count
-    go (yes q) = q
-    go (no q) = absurd (h (kind-past count ws j (omega arith)))
 
 module _ (count : ℕ) (ws pool : List ℕ) (j kind : ℕ) where
   pub is-kind : kind_at count ws j ≡ kind → is_a kind (token_at (decode count ws pool) j) ≡ true
@@ -58,10 +42,3 @@ between-drop (t ∷ ts) (suc a) (suc b) = let e : suc b - suc a ≡ b - a = omeg
 pub between-inside : (end count : ℕ) (ws pool : List ℕ) (a b : ℕ) → end ≤ count → b ≤ end → between (decode end ws pool) a b ≡ between (decode count ws pool) a b
 between-inside end count ws pool a b h q =
     between-drop (decode end ws pool) a b ∙ ap (drop a) (sym (decode-take b end ws pool q) ∙ decode-take b count ws pool (omega arith)) ∙ sym (between-drop (decode count ws pool) a b)
-
--- what is left of the line, and what is past it
-pub line-rest : (end count : ℕ) (ws pool : List ℕ) (j : ℕ) → end ≤ count → j ≤ end → drop j (decode count ws pool) ≡ drop j (decode end ws pool) ++ drop end (decode count ws pool)
-line-rest end count ws pool j h q =
-    let t : List Token = decode count ws pool in
-    let l : length (take end t) ≡ end = length-take-le end t (omega (arith, length-decode count ws pool)) in
-    ap (drop j) (sym (take-append-drop end t)) ∙ drop-append-le j (take end t) (drop end t) (omega arith) ∙ ap (λ (x : List Token). drop j x ++ drop end t) (sym (decode-take end count ws pool h))

@@ -17,8 +17,9 @@ use Rattle.scan.proofs.Lists.{cell_in}
 use Rattle.tokens.specs.Entries.{decode, token_at, kind_at}
 use Rattle.tokens.proofs.TokenLaws.{length-decode, decode-same, kind-at, kind-by, token-by, entry_in, token-cons, token_end}
 use Rattle.workspace.specs.Map.{dropped_kind, parts_between, starts_of, ends_of, arguments_from}
-use Rattle.lines.specs.declared.list.Listed.TheVariants.{Arguments, Open}
-use Rattle.lines.specs.Rows.{is_quote_kind, has_parts, NoneDropped, Keeps, RowWithin, Reading, Bounds, Row, Lists}
+use Rattle.std.specs.Prelude.{Option, Some, None, is_some, Ok, Err}
+use Rattle.lines.specs.Quotes.{is_quote_kind}
+use Rattle.lines.specs.Rows.{start_of, has_parts, NoneDropped, Keeps, RowWithin, Reading, Bounds, Row, Lists}
 use Rattle.lines.proofs.Tokens.{kind-past, is-kind, no_kind}
 use Rattle.lines.proofs.Roles.{quote-kind}
 use Rattle.lines.proofs.Parts.{parts_more, parts-dropped, parts_none, parts_same, has-parts-more, listed-some, listed-none, arguments-more, arguments-same, start-same, end_same, keeps-none, keeps_then, keeps-wider, keeps-token, keeps-start, keeps-end}
@@ -222,7 +223,7 @@ module _ (n from end i rows start : ℕ) (ws : List ℕ) (B : Bounds n from end 
               ∙ ap (λ (x : List Part). arguments (token_at (decode end ws₀ pool) opener) false x (arguments_from (decode end ws pool) (starts_of n ws) (ends_of n ws) from rows) (drop (i + 1) (decode end ws₀ pool))) (sym (one_more pool));
         }
 
-    pub turn-escaped : escaped ≡ true → Reading n from end ws₀ ws (i + 1) rows start true false quote opener
+    turn-escaped : escaped ≡ true → Reading n from end ws₀ ws (i + 1) rows start true false quote opener
     turn-escaped y = is-part (λ pool cur found. rw y (arg-escaped (token_at (decode end ws₀ pool) opener) cur found (token_at (decode end ws₀ pool) i) (drop (i + 1) (decode end ws₀ pool))))
 
     -- token i has a role, by what `role_at` read
@@ -236,8 +237,8 @@ module _ (n from end i rows start : ℕ) (ws : List ℕ) (B : Bounds n from end 
           is-role pool (token_at (decode end ws₀ pool) opener) (sym (R.quote_is ∙ kind-at end ws₀ pool opener))
           ∙ ap₂ (λ (t : Token) (ts : List Token). role (token_at (decode end ws₀ pool) opener) t ts) (here pool) (rest-same pool)
 
-      pub turn-part : r ≡ part → Reading n from end ws₀ ws (i + 1) rows start true false quote opener
-      turn-part e = is-part (λ pool cur found. rw y (arg-part (token_at (decode end ws₀ pool) opener) cur found (token_at (decode end ws₀ pool) i) (drop (i + 1) (decode end ws₀ pool)) (sym e ∙ role-is pool)))
+      turn-plain : r ≡ part → Reading n from end ws₀ ws (i + 1) rows start true false quote opener
+      turn-plain e = is-part (λ pool cur found. rw y (arg-part (token_at (decode end ws₀ pool) opener) cur found (token_at (decode end ws₀ pool) i) (drop (i + 1) (decode end ws₀ pool)) (sym e ∙ role-is pool)))
 
       -- what is left, with token i in front
       left_here : (pool : List ℕ) → list_value (drop from (decode end ws₀ pool))
@@ -312,6 +313,28 @@ module _ (n from end i rows start : ℕ) (ws : List ℕ) (B : Bounds n from end 
           is-dropped true quote opener R.quote_is
           (λ pool cur found. arg-escapes (token_at (decode end ws₀ pool) opener) cur found (token_at (decode end ws₀ pool) i) (drop (i + 1) (decode end ws₀ pool)) (sym e ∙ role-is pool))
 
+-- a part, escaped or not
+module _ (n from end i rows start : ℕ) (ws : List ℕ) (B : Bounds n from end i rows start ws) (h : i < end)
+    {ws₀ : List ℕ} {any escaped : Bool} {quote opener : ℕ} (R : Reading n from end ws₀ ws i rows start any escaped quote opener) where
+  pub turn-part : (escaped ≡ false → (pool : List ℕ) (q : Token) → q.kind ≡ quote → part ≡ role q (token_at (decode end ws pool) i) (drop (i + 1) (decode end ws pool))) → Reading n from end ws₀ ws (i + 1) rows start true false quote opener
+  turn-part f = go escaped refl
+    where
+      go : (b : Bool) → escaped ≡ b → Reading n from end ws₀ ws (i + 1) rows start true false quote opener
+      go true y = turn-escaped n from end i rows start ws B h R y
+      go false y = turn-plain n from end i rows start ws B h R y part (f y) refl
+
+-- what is no part was not escaped
+abbrev pub is_a_part : Role → Bool
+is_a_part part = true
+is_a_part splits = false
+is_a_part opens = false
+is_a_part closes = false
+is_a_part escapes = false
+
+pub spared : (escaped : Bool) (r : Role) → (escaped ≡ true → r ≡ part) → is_a_part r ≡ false → escaped ≡ false
+spared false r f n = refl
+spared true r f n = let e = f refl in let z : true ≡ false = sym (ap is_a_part e) ∙ n in cc
+
 -- the first and the last
 pub turns-begin : (n from end : ℕ) (ws : List ℕ) → NoneDropped from end ws → Reading n from end ws ws from 0 from false false 0 end
 unfolding has_parts arguments_from list_value
@@ -330,12 +353,12 @@ module _ (n from end rows start : ℕ) (any escaped : Bool) (quote opener : ℕ)
   quote-is : (pool : List ℕ) → is_quote (token_at (decode end ws₀ pool) opener) ≡ b
   quote-is pool = quote-kind (token_at (decode end ws₀ pool) opener) quote (sym (R.quote_is ∙ kind-at end ws₀ pool opener)) ∙ sym s
 
-  pub lists-open : b ≡ true → Lists n from end ws₀ ws (Open opener)
+  pub lists-open : b ≡ true → Lists n from end ws₀ ws (Err opener)
   lists-open y pool =
       R.left pool ∙ ap (arguments (token_at (decode end ws₀ pool) opener) escaped (parts_between (decode end ws pool) start end) (arguments_from (decode end ws pool) (starts_of n ws) (ends_of n ws) from rows)) (token_end end ws₀ pool end (omega arith))
       ∙ arg-open (token_at (decode end ws₀ pool) opener) (parts_between (decode end ws pool) start end) (arguments_from (decode end ws pool) (starts_of n ws) (ends_of n ws) from rows) escaped (quote-is pool ∙ y)
 
-  pub lists-all : b ≡ false → (ws' : List ℕ) (m : ℕ) → Flushed n from end end rows start ws ws' m → Lists n from end ws₀ ws' (Arguments m)
+  pub lists-all : b ≡ false → (ws' : List ℕ) (m : ℕ) → Flushed n from end end rows start ws ws' m → Lists n from end ws₀ ws' (Ok m)
   lists-all y ws' m F = (
     F.bound,
     F.within,
@@ -356,3 +379,39 @@ split-bound from i rows start any r w a b e = go any refl
 
 pub row-none : (from i rows : ℕ) → Row from i rows false
 row-none from i rows y = let z : ◌≡◌ {A = ℕ} 0 1 = cc in absurd (omega arith)
+
+-- the same by where the argument starts, if it has a part
+no-parts : (ps : List Part) → has_parts ps ≡ false → ps ≡ []
+unfolding has_parts
+no-parts [] e = refl
+no-parts (p ∷ ps) e = cc
+
+-- a token that is dropped moves the start of an argument that has no part yet
+pub start-later : (n from end i rows : ℕ) (start : Option ℕ) {escaped : Bool} {quote opener : ℕ} {ws₀ ws : List ℕ}
+    → Reading n from end ws₀ ws (i + 1) rows (start_of start i) (is_some start) escaped quote opener
+    → Reading n from end ws₀ ws (i + 1) rows (start_of start (i + 1)) (is_some start) escaped quote opener
+unfolding has_parts
+start-later n from end i rows (Some first) R = R
+start-later n from end i rows None {escaped} {quote} {opener} {ws₀} {ws} R =
+    record {
+      none_dropped = R.none_dropped;
+      keeps = R.keeps;
+      quote_is = R.quote_is;
+      is_any = λ pool. sym (ap has_parts (parts_none (decode end ws pool) (i + 1)));
+      within = R.within;
+      left = λ pool.
+          R.left pool
+          ∙ ap (λ (x : List Part). arguments (token_at (decode end ws₀ pool) opener) escaped x (arguments_from (decode end ws pool) (starts_of n ws) (ends_of n ws) from rows) (drop (i + 1) (decode end ws₀ pool)))
+          (no-parts (parts_between (decode end ws pool) i (i + 1)) (sym (R.is_any pool)) ∙ sym (parts_none (decode end ws pool) (i + 1)));
+    }
+
+pub bounds-later : (n from end i rows : ℕ) (start : Option ℕ) (ws ws' : List ℕ) → Bounds n from end i rows (start_of start i) ws → i < end → length ws' ≡ length ws
+    → Bounds n from end (i + 1) rows (start_of start (i + 1)) ws'
+bounds-later n from end i rows (Some first) ws ws' B h l = bounds-more n from end i rows first ws B h ws' l
+bounds-later n from end i rows None ws ws' B h l =
+    record { small = B.small; room = omega (arith, B.room); inside = B.inside; on = omega arith; rows_before = omega (arith, B.rows_before); start_before = omega arith }
+
+-- a token that is not dropped was not escaped
+pub unescaped : {n from end i rows start quote opener : ℕ} {any escaped : Bool} {ws₀ ws : List ℕ} → escaped ≡ false
+    → Reading n from end ws₀ ws i rows start any false quote opener → Reading n from end ws₀ ws i rows start any escaped quote opener
+unescaped y R = rw y R

@@ -1,64 +1,53 @@
--- One line of tokens as the workspace holds them: where it ends, and how it starts. Assumes nothing.
-use Rattle.std.specs.Prelude.{ℕ, ◌+◌, ◌*◌, ◌≤◌, ◌<◌, ◌≡◌, List, ltb, length, drop}
+-- One line of a list of tokens: where it ends, and how it starts. Assumes nothing.
+use Rattle.std.specs.Prelude.{ℕ, ◌+◌, ◌≤◌, ◌<◌, ◌≡◌, List, ltb, length, take, drop}
 use Rattle.rules.specs.Bytes.{pick}
-use Rattle.rules.specs.Tokens.{text_kind, new_line_kind}
-use Rattle.rules.specs.Numbers.{unexpected_at_start, unexpected_after_key, ended_after_key, refused, ok}
-use Rattle.rules.specs.Lines.{Ending, newline, end_of_text, Line, empty, skip_blanks, trimmed, read_line, read_assignment, read_field}
-use Rattle.tokens.specs.Entries.{decode, token_at, kind_at}
+use Rattle.rules.specs.Tokens.{Token, text_kind, new_line_kind}
+use Rattle.rules.specs.Numbers.{Result, unexpected_at_start, unexpected_after_key, ended_after_key, refused, ok}
+use Rattle.rules.specs.Lines.{Ending, newline, end_of_text, Line, Item, empty, skip_blanks, trimmed, read_assignment, read_field}
+use Rattle.tokens.specs.Entries.{token_at}
 use Rattle.workspace.specs.Map.{between}
 use Rattle.lines.specs.declared.line.LineStart.{LineStart}
 use Rattle.lines.specs.declared.line.LineStart.TheVariants.{Empty, WrongStart, WrongAfter, Ended, Assigns, Gives}
 
 -- the first token from j on that is no blank: r
-pub record Skips (count j : ℕ) (ws : List ℕ) (r : ℕ) : Type 0 where
+pub record Skips (ts : List Token) (j r : ℕ) : Type 0 where
   pub on : j ≤ r
-  pub inside : j ≤ count → r ≤ count
-  pub is : (pool : List ℕ) → skip_blanks (drop j (decode count ws pool)) ≡ drop r (decode count ws pool)
+  pub inside : r ≤ length ts
+  pub is : skip_blanks (drop j ts) ≡ drop r ts
 
 -- the line that starts at token j ends at r: at the first newline, or with the text
-pub record EndsLine (count j : ℕ) (ws : List ℕ) (r : ℕ) : Type 0 where
+pub record EndsLine (ts : List Token) (j r : ℕ) : Type 0 where
   pub on : j ≤ r
-  pub inside : r ≤ count
-  pub no_newline : (k : ℕ) → j ≤ k → k < r → kind_at count ws k ≡ new_line_kind → ⊥
-  pub at_newline : r < count → kind_at count ws r ≡ new_line_kind
+  pub inside : r ≤ length ts
+  pub no_newline : (k : ℕ) → j ≤ k → k < r → (token_at ts k).kind ≡ new_line_kind → ⊥
+  pub at_newline : r < length ts → (token_at ts r).kind ≡ new_line_kind
 
 -- how the line ends
-abbrev pub ending_at : ℕ → ℕ → List ℕ → List ℕ → Ending
-ending_at count end ws pool = pick (ltb end count) (newline (token_at (decode count ws pool) end)) end_of_text
+abbrev pub ending_at : List Token → ℕ → Ending
+ending_at ts end = pick (ltb end (length ts)) (newline (token_at ts end)) end_of_text
 
 -- the line of the tokens from j up to, not with, `end`
-abbrev pub line_at : ℕ → ℕ → List ℕ → List ℕ → ℕ → Line
-line_at count end ws pool j = record { content = drop j (decode end ws pool); ending = ending_at count end ws pool }
+abbrev pub line_at : List Token → ℕ → ℕ → Line
+line_at ts end j = record { content = drop j (take end ts); ending = ending_at ts end }
 
 -- where key and value of a line from j up to `end` stand
-pub record Stands (count end j key from : ℕ) (ws : List ℕ) : Type 0 where
+pub record Stands (ts : List Token) (end j key from : ℕ) : Type 0 where
   pub key_on : j ≤ key
   pub value_on : key + 2 ≤ from
   pub inside : from ≤ end
-  pub is_text : kind_at count ws key ≡ text_kind
+  pub is_text : (token_at ts key).kind ≡ text_kind
 
--- what the line's start says of what `read_line` comes to
-abbrev pub Starts : ℕ → ℕ → ℕ → List ℕ → LineStart → Type 0
-Starts count end j ws Empty = (pool : List ℕ) → read_line (line_at count end ws pool j) ≡ ok empty
-Starts count end j ws (WrongStart k) = (k < count) × ((pool : List ℕ) → read_line (line_at count end ws pool j) ≡ refused (unexpected_at_start (token_at (decode count ws pool) k)))
-Starts count end j ws (WrongAfter k) = (k < count) × ((pool : List ℕ) → read_line (line_at count end ws pool j) ≡ refused (unexpected_after_key (token_at (decode count ws pool) k)))
-Starts count end j ws Ended = (pool : List ℕ) → read_line (line_at count end ws pool j) ≡ refused ended_after_key
-Starts count end j ws (Assigns key from) =
-    Stands count end j key from ws × ((pool : List ℕ) → read_line (line_at count end ws pool j) ≡ read_assignment (token_at (decode count ws pool) key) (ending_at count end ws pool) (drop from (decode end ws pool)))
-Starts count end j ws (Gives key from) =
-    Stands count end j key from ws × ((pool : List ℕ) → read_line (line_at count end ws pool j) ≡ read_field (token_at (decode count ws pool) key) (ending_at count end ws pool) (drop from (decode end ws pool)))
-
--- the line from j up to `end` has a Text at `key`, with blanks alone before it
-pub record AtKey (count end j key : ℕ) (ws : List ℕ) : Type 0 where
-  pub room : 4 * count ≤ length ws
-  pub inside : end ≤ count
-  pub key_on : j ≤ key
-  pub key_in : key < end
-  pub is_text : kind_at end ws key ≡ text_kind
-  pub is : (pool : List ℕ) → skip_blanks (drop j (decode end ws pool)) ≡ drop key (decode end ws pool)
+-- what the start of a line from j up to `end` says of what the line reads as
+abbrev pub Starts : List Token → ℕ → ℕ → Result Item → LineStart → Type 0
+Starts ts end j item Empty = item ≡ ok empty
+Starts ts end j item (WrongStart k) = (k < length ts) × (item ≡ refused (unexpected_at_start (token_at ts k)))
+Starts ts end j item (WrongAfter k) = (k < length ts) × (item ≡ refused (unexpected_after_key (token_at ts k)))
+Starts ts end j item Ended = item ≡ refused ended_after_key
+Starts ts end j item (Assigns key from) = Stands ts end j key from × (item ≡ read_assignment (token_at ts key) (ending_at ts end) (drop from (take end ts)))
+Starts ts end j item (Gives key from) = Stands ts end j key from × (item ≡ read_field (token_at ts key) (ending_at ts end) (drop from (take end ts)))
 
 -- a string value of the line from `from` on ends at r
-pub record EndsValue (count end from : ℕ) (ws : List ℕ) (r : ℕ) : Type 0 where
+pub record EndsValue (ts : List Token) (end from r : ℕ) : Type 0 where
   pub on : from ≤ r
   pub inside : r ≤ end
-  pub is : (pool : List ℕ) → trimmed (ending_at count end ws pool) (drop from (decode end ws pool)) ≡ between (decode count ws pool) from r
+  pub is : trimmed (ending_at ts end) (drop from (take end ts)) ≡ between ts from r

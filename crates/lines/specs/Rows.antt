@@ -1,6 +1,5 @@
 -- List values as the workspace holds them: dropped tokens have kind 0, and each argument has a row at the tokens of the value. Assumes nothing.
-use Rattle.std.specs.Prelude.{ℕ, ◌+◌, ◌*◌, ◌≤◌, ◌<◌, ◌≡◌, Bool, true, false, ◌||◌, List, [], ◌∷◌, eqb, length, get_or, drop}
-use Rattle.rules.specs.Tokens.{single_quote_kind, double_quote_kind}
+use Rattle.std.specs.Prelude.{ℕ, ◌+◌, ◌*◌, ◌≤◌, ◌<◌, ◌≡◌, Bool, true, false, List, [], ◌∷◌, length, get_or, drop, set, Option, Some, None, is_some, unwrap_or, Result, Ok, Err}
 use Rattle.rules.specs.Numbers.{unterminated_quote, refused, ok}
 use Rattle.rules.specs.Lines as Lines
 use Rattle.rules.specs.Lines.{Part, arguments, list_value}
@@ -8,8 +7,9 @@ use Rattle.tokens.specs.Entries.{decode, token_at, kind_at}
 use Rattle.workspace.specs.Map.{dropped_kind, parts_between, starts_of, ends_of, arguments_from}
 use Rattle.lines.specs.declared.list.Role.{Role}
 use Rattle.lines.specs.declared.list.Role.TheVariants.{Part as IsPart, Splits, Opens, Closes, Escapes}
-use Rattle.lines.specs.declared.list.Listed.{Listed}
-use Rattle.lines.specs.declared.list.Listed.TheVariants.{Arguments, Open}
+use Rattle.lines.specs.declared.list.ListState.{ListState}
+use Rattle.lines.specs.declared.value.ListPlace.{ListPlace}
+use Rattle.lines.specs.declared.value.Quote.{Quote}
 
 -- rules' name of a role
 abbrev pub role_of : Role → Lines.Role
@@ -19,8 +19,19 @@ role_of Opens = Lines.opens
 role_of Closes = Lines.closes
 role_of Escapes = Lines.escapes
 
-abbrev pub is_quote_kind : ℕ → Bool
-is_quote_kind kind = eqb kind single_quote_kind || eqb kind double_quote_kind
+-- the kind of the quotes that are open, 0 where none are
+abbrev pub kind_of : Option Quote → ℕ
+kind_of None = 0
+kind_of (Some q) = q.kind
+
+-- the token that opened them, past the line where none are
+abbrev pub opener_of : Option Quote → ℕ → ℕ
+opener_of None end = end
+opener_of (Some q) end = q.opener
+
+-- where the argument being read starts: at token i where it has no part yet
+abbrev pub start_of : Option ℕ → ℕ → ℕ
+start_of start i = unwrap_or start i
 
 unfoldable pub has_parts : List Part → Bool
 has_parts [] = false
@@ -74,9 +85,21 @@ pub record Flushable (n from i rows start : ℕ) (any : Bool) (ws : List ℕ) : 
   pub start_before : start ≤ i
   pub row : Row from i rows any
 
--- what a list value comes to
-abbrev pub Lists : ℕ → ℕ → ℕ → List ℕ → List ℕ → Listed → Type 0
-Lists n from end ws ws' (Arguments m) =
+-- the same of a state: its numbers, and what it has read
+abbrev pub Fits : ListPlace → ℕ → ListState → List ℕ → Type 0
+Fits place i s ws = Bounds place.n place.from place.end i s.rows (start_of s.start i) ws × Row place.from i s.rows (is_some s.start)
+
+abbrev pub ReadAs : ListPlace → List ℕ → List ℕ → ℕ → ListState → Type 0
+ReadAs place ws₀ ws i s =
+    Reading place.n place.from place.end ws₀ ws i s.rows (start_of s.start i) (is_some s.start) s.escaped (kind_of s.quote) (opener_of s.quote place.end)
+
+-- with one row more: the argument from token `start` up to token `end`
+abbrev pub with_row : ListPlace → ℕ → ℕ → ℕ → List ℕ → List ℕ
+with_row place rows start end ws = set (set ws (5 * place.n + (place.from + rows)) start) (6 * place.n + (place.from + rows)) end
+
+-- what a list value comes to: its arguments, or the token of the quote that stays open
+abbrev pub Lists : ℕ → ℕ → ℕ → List ℕ → List ℕ → Result ℕ ℕ → Type 0
+Lists n from end ws ws' (Ok m) =
     (from + m ≤ end) × ((k : ℕ) → from ≤ k → k < from + m → RowWithin n from end ws' k)
     × ((pool : List ℕ) → list_value (drop from (decode end ws pool)) ≡ ok (arguments_from (decode end ws' pool) (starts_of n ws') (ends_of n ws') from m))
-Lists n from end ws ws' (Open q) = (pool : List ℕ) → list_value (drop from (decode end ws pool)) ≡ refused (unterminated_quote (token_at (decode end ws pool) q))
+Lists n from end ws ws' (Err q) = (pool : List ℕ) → list_value (drop from (decode end ws pool)) ≡ refused (unterminated_quote (token_at (decode end ws pool) q))

@@ -1,34 +1,31 @@
 // One line: where it ends, how it starts, where its string value ends. All of it by the kinds of tokens alone.
-ghost use Rattle.std.specs.Prelude.{◌+◌, ◌*◌, ◌≤◌, ◌<◌, length};
-ghost use Rattle.lines.specs.Line.{Skips, EndsLine, AtKey, Starts, EndsValue};
+ghost use Rattle.std.specs.Prelude.{◌≡◌, ◌+◌, ◌≤◌, ◌<◌, length, take, drop};
+ghost use Rattle.rules.specs.Tokens.{text_kind};
+ghost use Rattle.rules.specs.Lines.{skip_blanks, read_line, after_key};
+ghost use Rattle.tokens.specs.Entries.{token_at};
+ghost use Rattle.lines.specs.Line.{Skips, EndsLine, ending_at, line_at, Starts, EndsValue};
 
-use tokens::{TokenKind, kind_at};
+use tokens::TokenKind;
+use tokens::table::Table;
 
-// The first of the `count` tokens from token j on that is no blank.
-fn skip_blanks(ws: &[u32], count: usize, j: usize) -> usize
-    requires { 4 * count ≤ length ws.now }
-    ensures { Skips count j ws.now result }
+// The first token from `from` on that is no blank; the end where there is none.
+fn skip_blanks(tokens: &Table, from: usize) -> usize
+    requires { from ≤ length tokens.now }
+    ensures { Skips tokens.now from result }
 {
-    let mut i = j;
-    while kind_at(ws, count, i) == TokenKind::BLANK {
-        i += 1;
-    }
-    i
+    (from..tokens.len())
+        .find(|i| tokens.kind(*i) != TokenKind::Blank as u32)
+        .unwrap_or(tokens.len())
 }
 
-// The newline that ends the line of token j; `count` where the text ends it.
-pub fn line_end(ws: &[u32], count: usize, j: usize) -> usize
-    requires { (4 * count ≤ length ws.now) × (j ≤ count) }
-    ensures { EndsLine count j ws.now result }
+// The newline that ends the line of token `from`; the end of the tokens where the text ends it.
+pub fn line_end(tokens: &Table, from: usize) -> usize
+    requires { from ≤ length tokens.now }
+    ensures { EndsLine tokens.now from result }
 {
-    let mut i = j;
-    while i < count {
-        if kind_at(ws, count, i) == TokenKind::NEW_LINE {
-            return i;
-        }
-        i += 1;
-    }
-    i
+    (from..tokens.len())
+        .find(|i| tokens.kind(*i) == TokenKind::NewLine as u32)
+        .unwrap_or(tokens.len())
 }
 
 // How a line starts. WrongStart and WrongAfter have the wrong token, Assigns (`=`) and Gives (`:`) the key token and the value's first.
@@ -38,60 +35,71 @@ pub enum LineStart {
     WrongStart(usize),
     WrongAfter(usize),
     Ended,
-    Assigns(usize, usize),
-    Gives(usize, usize),
+    Assigns { key: usize, from: usize },
+    Gives { key: usize, from: usize },
 }
 
-// Past the key: `:` or `=`, with blanks around.
-fn after_key(ws: &[u32], count: usize, end: usize, j: usize, key: usize) -> LineStart
-    requires { AtKey count end j key ws.now }
-    ensures { Starts count end j ws.now result }
+// Past the key of the line that ends at `end`: `:` or `=`, with blanks around.
+#[tactic(auto, using(crate::proofs::Starts::marking))]
+fn after_key(tokens: &Table, end: usize, key: usize) -> LineStart
+    requires inside { end ≤ length tokens.now }
+    requires at_key { key < end }
+    requires is_text { (token_at tokens.now key).kind ≡ text_kind }
+    ensures { Starts tokens.now end key (after_key (token_at tokens.now key) (ending_at tokens.now end) (skip_blanks (drop (key + 1) (take end tokens.now)))) result }
 {
-    let m = skip_blanks(ws, end, key + 1);
-    if end <= m {
-        if end < count {
-            return LineStart::WrongAfter(end);
+    let line = tokens.until(end);
+    let mark = skip_blanks(&line, key + 1);
+    if end <= mark {
+        return if end < tokens.len() {
+            LineStart::WrongAfter(end)
+        } else {
+            LineStart::Ended
+        };
+    }
+    let kind = line.kind(mark);
+    if kind == TokenKind::Colon as u32 {
+        LineStart::Gives {
+            key,
+            from: skip_blanks(&line, mark + 1),
         }
-        return LineStart::Ended;
+    } else if kind == TokenKind::Equals as u32 {
+        LineStart::Assigns {
+            key,
+            from: skip_blanks(&line, mark + 1),
+        }
+    } else {
+        LineStart::WrongAfter(mark)
     }
-    let kind = kind_at(ws, end, m);
-    if kind == TokenKind::COLON {
-        return LineStart::Gives(key, skip_blanks(ws, end, m + 1));
-    }
-    if kind == TokenKind::EQUALS {
-        return LineStart::Assigns(key, skip_blanks(ws, end, m + 1));
-    }
-    LineStart::WrongAfter(m)
 }
 
-// How the line of the tokens from j up to `end` starts.
-pub fn line_start(ws: &[u32], count: usize, end: usize, j: usize) -> LineStart
-    requires { (4 * count ≤ length ws.now) × (j ≤ end) × (end ≤ count) }
-    ensures { Starts count end j ws.now result }
+// How the line of the tokens from `from` up to `end` starts.
+#[tactic(auto, using(crate::proofs::Starts::starting))]
+pub fn line_start(tokens: &Table, end: usize, from: usize) -> LineStart
+    requires inside { end ≤ length tokens.now }
+    requires on { from ≤ end }
+    ensures { Starts tokens.now end from (read_line (line_at tokens.now end from)) result }
 {
-    let a = skip_blanks(ws, end, j);
-    if end <= a {
-        return LineStart::Empty;
+    let line = tokens.until(end);
+    let key = skip_blanks(&line, from);
+    if end <= key {
+        LineStart::Empty
+    } else if line.kind(key) == TokenKind::Text as u32 {
+        after_key(tokens, end, key)
+    } else {
+        LineStart::WrongStart(key)
     }
-    if kind_at(ws, end, a) == TokenKind::TEXT {
-        return after_key(ws, count, end, j, a);
-    }
-    LineStart::WrongStart(a)
 }
 
 // Where a string value ends that starts at token `from`: "Of the blanks before a newline only the last drops; at the end of the text all stay."
-pub fn value_end(ws: &[u32], count: usize, end: usize, from: usize) -> usize
-    requires { (4 * count ≤ length ws.now) × (from ≤ end) × (end ≤ count) }
-    ensures { EndsValue count end from ws.now result }
+#[tactic(auto, using(crate::proofs::Starts::ending))]
+pub fn value_end(tokens: &Table, end: usize, from: usize) -> usize
+    requires inside { end ≤ length tokens.now }
+    requires on { from ≤ end }
+    ensures { EndsValue tokens.now end from result }
 {
-    if count <= end {
-        return end;
+    if end < tokens.len() && from < end && tokens.kind(end - 1) == TokenKind::Blank as u32 {
+        end - 1
+    } else {
+        end
     }
-    if end <= from {
-        return end;
-    }
-    if kind_at(ws, end, end - 1) == TokenKind::BLANK {
-        return end - 1;
-    }
-    end
 }

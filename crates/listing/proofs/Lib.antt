@@ -1,6 +1,5 @@
-pub mod Decimals
-pub mod Puts
-pub mod Runs
+pub mod LineLengths
+pub mod Needs
 pub mod Answers
 pub mod Accepted
 pub mod Outcome

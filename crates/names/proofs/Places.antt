@@ -4,8 +4,7 @@ use mathlib.Core.Path.{◌≡◌, refl, sym, ◌∙◌, ap}
 use mathlib.Core.Bool.{Bool, true, false}
 use mathlib.Core.List.{List, [], ◌∷◌, ◌++◌, map}
 use native.Mathlib.Omega.{arith}
-use lib.ListN.{length, get_or, take, drop, length-map, length-drop}
-use lib.Seq.{length-take-le}
+use lib.ListN.{length, get_or, take, drop, length-map}
 use borrow.Author.Tests.{eqb-true}
 use Rattle.rules.specs.Bytes.{pick, same, before}
 use Rattle.rules.proofs.BytesLaws.{same-eq, same_refl, false-true, Before, before-is, is-before, before_irrefl, before_trans, before_total}
@@ -13,14 +12,17 @@ use Rattle.rules.specs.Tokens.{Token, is_a, text_kind, pooled}
 use Rattle.rules.specs.Lines.{Assignment, assigned, insert}
 use Rattle.rules.proofs.TableLaws.{After, Sorted, or-false}
 use Rattle.rules.specs.Variables.{rank_of, key_at}
-use Rattle.scan.specs.declared.order.Order.{Order}
-use Rattle.scan.specs.declared.order.Order.TheVariants.{Less, Equal, Greater}
-use Rattle.scan.specs.Orders.{order_of}
-use Rattle.scan.proofs.Orders.{is_less, is_equal, told-before, told_same}
-use Rattle.tokens.specs.Entries.{decode, token_at, pool_text}
-use Rattle.workspace.specs.Map.{keys_from, starts_of, ends_of, variable_at, variables_from}
-use Rattle.names.specs.Store.{place_for, All, Searchable, place_among}
-use Rattle.names.specs.declared.Place.{Place}
+use Rattle.std.specs.declared.cmp.Ordering.{Ordering}
+use Rattle.std.specs.declared.cmp.Ordering.TheVariants.{Less, Equal, Greater}
+use Rattle.std.specs.Ordering.{is_lt, is_eq}
+use Rattle.scan.specs.ByteOrder.{order_of}
+use Rattle.scan.proofs.Compares.{less_before, equal_same}
+use Rattle.tokens.specs.Entries.{token_at, pool_text}
+use Rattle.workspace.specs.Map.{variable_at}
+use Rattle.names.specs.Store.{place_for, All, place_among}
+use Rattle.names.specs.Named.{named, Searchable}
+use Rattle.std.specs.Prelude.{Result, Ok, Err}
+use Rattle.std.specs.Result.{result_unwrap_or}
 
 -- the i-th name stands before the key; it is the key
 abbrev is_before : List Assignment → List ℕ → ℕ → Bool
@@ -73,17 +75,17 @@ module _ (vs : List Assignment) (key : List ℕ) (n lo hi : ℕ) (l : length vs 
 pub bracket-start : (p : ℕ → Bool) (n : ℕ) → Bracket p n 0 n
 bracket-start p n = record { lo_le = omega arith; hi_le = omega arith; below = λ k q. absurd (omega arith); above = λ k q r. absurd (omega arith) }
 
--- where the bracket closes stands the rank
-bracket-place : (vs : List Assignment) (key : List ℕ) (r : ℕ) → r ≤ length vs → ((k : ℕ) → k < r → is_before vs key k ≡ true)
+-- those before it are the names before place r: r is the place
+place-between : (vs : List Assignment) (key : List ℕ) (r : ℕ) → r ≤ length vs → ((k : ℕ) → k < r → is_before vs key k ≡ true)
     → ((k : ℕ) → r ≤ k → k < length vs → is_before vs key k ≡ false) → r ≡ place_for key vs
 unfolding place_for key_at
-bracket-place [] key r h b a = omega arith
-bracket-place (v ∷ vs) key zero h b a = rw (a 0 (omega arith) (omega arith), place_for)
-bracket-place (v ∷ vs) key (suc r) h b a =
-    rw (b 0 (omega arith), place_for) (ap suc (bracket-place vs key r (omega arith) (λ k q. b (suc k) (omega arith)) (λ k p q. a (suc k) (omega arith) (omega arith))))
+place-between [] key r h b a = omega arith
+place-between (v ∷ vs) key zero h b a = rw (a 0 (omega arith) (omega arith), place_for)
+place-between (v ∷ vs) key (suc r) h b a =
+    rw (b 0 (omega arith), place_for) (ap suc (place-between vs key r (omega arith) (λ k q. b (suc k) (omega arith)) (λ k p q. a (suc k) (omega arith) (omega arith))))
 
 pub bracket-end : (vs : List Assignment) (key : List ℕ) (n lo hi : ℕ) → length vs ≡ n → hi ≤ lo → Bracket (is_before vs key) n lo hi → lo ≡ place_for key vs
-bracket-end vs key n lo hi l e b = bracket-place vs key lo (omega (arith, b.lo_le, b.hi_le)) b.below (λ k q r. b.above k (omega arith) (omega arith))
+bracket-end vs key n lo hi l e b = place-between vs key lo (omega (arith, b.lo_le, b.hi_le)) b.below (λ k q r. b.above k (omega arith) (omega arith))
 
 pub place-le : (key : List ℕ) (vs : List Assignment) → place_for key vs ≤ length vs
 unfolding place_for
@@ -177,22 +179,31 @@ unassigned-rank key [] e = refl
 unassigned-rank key (v ∷ vs) e = let x = or-false (same key v.key.text) (assigned key vs) e in rw (x.0, rank_of) (ap suc (unassigned-rank key vs x.1))
 
 -- what was found, by its case
-module _ (vs : List Assignment) (key : List ℕ) (r : Place) (e : r ≡ place_among vs key) where
-  pub taken : (i : ℕ) → r ≡ Place.Taken i → (i ≡ rank_of key vs) × (assigned key vs ≡ true)
+-- the rank of a name, or the number of names where it is none of them
+pub rank-or : (vs : List Assignment) (key : List ℕ) (v : ℕ) → length vs ≡ v → result_unwrap_or (place_among vs key) v ≡ rank_of key vs
+unfolding place_among pick
+rank-or vs key v l = go (assigned key vs) refl
+  where
+    go : (b : Bool) → assigned key vs ≡ b → result_unwrap_or (pick {A = Result ℕ ℕ} b (Ok (rank_of key vs)) (Err (place_for key vs))) v ≡ rank_of key vs
+    go true z = refl
+    go false z = sym l ∙ unassigned-rank key vs z
+
+module _ (vs : List Assignment) (key : List ℕ) (r : Result ℕ ℕ) (e : r ≡ place_among vs key) where
+  pub taken : (i : ℕ) → r ≡ Ok i → (i ≡ rank_of key vs) × (assigned key vs ≡ true)
   unfolding place_among pick
   taken i q = go (assigned key vs) refl
     where
       go : (t : Bool) → assigned key vs ≡ t → (i ≡ rank_of key vs) × (t ≡ true)
-      go true z = (let y : Place.Taken i ≡ Place.Taken (rank_of key vs) = sym q ∙ (rw (z, place_among) at e) in cc, refl)
-      go false z = (let y : Place.Taken i ≡ Place.Free (place_for key vs) = sym q ∙ (rw (z, place_among) at e) in let x : ◌≡◌ {A = ℕ} 0 1 = cc in absurd (omega arith))
+      go true z = (let y : Ok i ≡ Ok (rank_of key vs) = sym q ∙ (rw (z, place_among) at e) in cc, refl)
+      go false z = (let y : Ok i ≡ Err (place_for key vs) = sym q ∙ (rw (z, place_among) at e) in let x : ◌≡◌ {A = ℕ} 0 1 = cc in absurd (omega arith))
 
-  pub free : (p : ℕ) → r ≡ Place.Free p → (p ≡ place_for key vs) × (length vs ≡ rank_of key vs) × (assigned key vs ≡ false)
+  pub free : (p : ℕ) → r ≡ Err p → (p ≡ place_for key vs) × (length vs ≡ rank_of key vs) × (assigned key vs ≡ false)
   unfolding place_among pick
   free p q = go (assigned key vs) refl
     where
       go : (t : Bool) → assigned key vs ≡ t → (p ≡ place_for key vs) × (length vs ≡ rank_of key vs) × (t ≡ false)
-      go true z = (let y : Place.Free p ≡ Place.Taken (rank_of key vs) = sym q ∙ (rw (z, place_among) at e) in let x : ◌≡◌ {A = ℕ} 0 1 = cc in absurd (omega arith))
-      go false z = (let y : Place.Free p ≡ Place.Free (place_for key vs) = sym q ∙ (rw (z, place_among) at e) in cc, unassigned-rank key vs z, refl)
+      go true z = (let y : Err p ≡ Ok (rank_of key vs) = sym q ∙ (rw (z, place_among) at e) in let x : ◌≡◌ {A = ℕ} 0 1 = cc in absurd (omega arith))
+      go false z = (let y : Err p ≡ Err (place_for key vs) = sym q ∙ (rw (z, place_among) at e) in cc, unassigned-rank key vs z, refl)
 
 -- what the search reads: the keys of the variables are the tokens of the column of keys
 key-map : (ts : List Token) (starts ends ks : List ℕ) (i : ℕ) → i < length ks → key_at (map (variable_at ts starts ends) ks) i ≡ token_at ts (get_or ks i 0)
@@ -211,92 +222,82 @@ pub text-pooled : (t : Token) → is_a text_kind t ≡ true → pool_text t ≡ 
 unfolding is_a pooled pick
 text-pooled t e = let k = eqb-true t.kind 1 e in rw k
 
-module _ (first n count v : ℕ) (ws pool : List ℕ) (S : Searchable first n count v ws pool) where
-  pub keys_length : length (keys_from first v ws) ≡ v
-  keys_length = length-take-le v (drop first ws) (omega (arith, length-drop first ws, S.room, S.few))
-
-  pub table-length : length (variables_from first n count v ws pool) ≡ v
-  unfolding variables_from
-  table-length = length-map (keys_from first v ws) _ ∙ keys_length
+-- the search
+module _ (ts : List Token) (keys : List ℕ) (S : Searchable ts keys) where
+  pub names_length : length (named ts keys) ≡ length keys
+  unfolding named
+  names_length = length-map keys _
 
   -- the i-th name as it is read
-  name-read : (i : ℕ) → i < v → pool_text (token_at (decode count ws pool) (get_or (keys_from first v ws) i 0)) ≡ (key_at (variables_from first n count v ws pool) i).text
-  unfolding variables_from
+  name-read : (i : ℕ) → i < length keys → pool_text (token_at ts (get_or keys i 0)) ≡ (key_at (named ts keys) i).text
+  unfolding named
   name-read i q =
-      let l = keys_length in
-      let x = all-at (λ (k : ℕ). is_a text_kind (token_at (decode count ws pool) k) ≡ true) (keys_from first v ws) i (omega arith) S.texts in
-      text-pooled (token_at (decode count ws pool) (get_or (keys_from first v ws) i 0)) x
-      ∙ sym (ap (λ (t : Token). t.text) (key-map (decode count ws pool) (starts_of n ws) (ends_of n ws) (keys_from first v ws) i (omega arith)))
+      let x = all-at (λ (k : ℕ). is_a text_kind (token_at ts k) ≡ true) keys i q S.texts in
+      text-pooled (token_at ts (get_or keys i 0)) x ∙ sym (ap (λ (t : Token). t.text) (key-map ts [] [] keys i q))
 
-  module _ (i : ℕ) (key : List ℕ) (q : i < v) (o k : Order) (e : o ≡ order_of (pool_text (token_at (decode count ws pool) (get_or (keys_from first v ws) i 0))) key) (m : o ≡ k) where
-    pub reads_before : is_less k ≡ is_before (variables_from first n count v ws pool) key i
-    reads_before = rw (← name-read i q) (told-before (pool_text (token_at (decode count ws pool) (get_or (keys_from first v ws) i 0))) key o k e m)
+  -- by how it compares
+  module _ (i : ℕ) (name : List ℕ) (h : i < length keys) (o k : Ordering) (e : o ≡ order_of (pool_text (token_at ts (get_or keys i 0))) name) (m : o ≡ k) where
+    reads-before : is_lt k ≡ is_before (named ts keys) name i
+    reads-before = ap is_lt (sym m) ∙ less_before _ _ o e ∙ ap (λ (t : List ℕ). before t name) (name-read i h)
 
-    pub reads_same : is_equal k ≡ is_same (variables_from first n count v ws pool) key i
-    reads_same = rw (← name-read i q) (told_same (pool_text (token_at (decode count ws pool) (get_or (keys_from first v ws) i 0))) key o k e m)
+    reads-same : is_eq k ≡ is_same (named ts keys) name i
+    reads-same = ap is_eq (sym m) ∙ equal_same _ _ o e ∙ ap (λ (t : List ℕ). same t name) (name-read i h)
 
-  -- what a search for `key` found
-  module _ (key : List ℕ) (p : ℕ) (q : p ≡ place_for key (variables_from first n count v ws pool)) where
-    found : p < v → is_same (variables_from first n count v ws pool) key p ≡ true → (p ≡ rank_of key (variables_from first n count v ws pool)) × (assigned key (variables_from first n count v ws pool) ≡ true)
-    found h z =
-        let l = table-length in
-        let x = place_found key (variables_from first n count v ws pool) S.sorted (omega arith) (rw q at z) in
-        (q ∙ x.0, x.1)
+  -- what a search for the name found
+  module _ (name : List ℕ) (p : ℕ) (q : p ≡ place_for name (named ts keys)) where
+    found : p < length keys → is_same (named ts keys) name p ≡ true → (p ≡ rank_of name (named ts keys)) × (assigned name (named ts keys) ≡ true)
+    found h z = let l = names_length in let x = place_found name (named ts keys) S.sorted (omega arith) (rw q at z) in (q ∙ x.0, x.1)
 
-    none : (p < v → is_same (variables_from first n count v ws pool) key p ≡ false) → assigned key (variables_from first n count v ws pool) ≡ false
-    none h =
-        let l = table-length in
-        place_none key (variables_from first n count v ws pool) S.sorted (λ a. ap (is_same (variables_from first n count v ws pool) key) (sym q) ∙ h (omega arith))
+    none : (p < length keys → is_same (named ts keys) name p ≡ false) → assigned name (named ts keys) ≡ false
+    none h = let l = names_length in place_none name (named ts keys) S.sorted (λ a. ap (is_same (named ts keys) name) (sym q) ∙ h (omega arith))
 
-  pub search-start : (key : List ℕ) → Searching (variables_from first n count v ws pool) v key 0 v
-  search-start key = record { bracket = bracket-start (is_before (variables_from first n count v ws pool) key) v; not_there = λ h. absurd (omega arith) }
+  pub search-start : (name : List ℕ) → Searching (named ts keys) (length keys) name 0 (length keys)
+  search-start name = record { bracket = bracket-start (is_before (named ts keys) name) (length keys); not_there = λ h. absurd (omega arith) }
 
-  module _ (key : List ℕ) (lo hi : ℕ) (B : Searching (variables_from first n count v ws pool) v key lo hi) where
-    pub search-end : hi ≤ lo → Place.Free lo ≡ place_among (variables_from first n count v ws pool) key
+  module _ (name : List ℕ) (low high : ℕ) (B : Searching (named ts keys) (length keys) name low high) where
+    pub search-end : high ≤ low → Err low ≡ place_among (named ts keys) name
     unfolding place_among pick
     search-end h =
-        let e : lo ≡ hi = omega (arith, B.bracket.lo_le) in
-        let p = bracket-end (variables_from first n count v ws pool) key v lo hi table-length h B.bracket in
-        rw (none key lo p (λ l. ap (is_same (variables_from first n count v ws pool) key) e ∙ B.not_there (omega arith))) (ap Place.Free p)
+        let e : low ≡ high = omega (arith, B.bracket.lo_le) in
+        let p = bracket-end (named ts keys) name (length keys) low high names_length h B.bracket in
+        rw (none name low p (λ l. ap (is_same (named ts keys) name) e ∙ B.not_there (omega arith))) (ap Err p)
 
     -- by how the name in the middle compares
-    module _ (d : lo < hi) (o : Order) (e : o ≡ order_of (pool_text (token_at (decode count ws pool) (get_or (keys_from first v ws) (lo + (hi - lo) / 2) 0))) key) where
+    module _ (d : low < high) (o : Ordering) (e : o ≡ order_of (pool_text (token_at ts (get_or keys (low + (high - low) / 2) 0))) name) where
       abbrev m : ℕ
-      m = lo + (hi - lo) / 2
+      m = low + (high - low) / 2
 
-      p : lo ≤ m
+      p : low ≤ m
       p = omega arith
 
-      h : m < hi
+      h : m < high
       h = omega arith
 
-      in_table : m < v
+      in_table : m < length keys
       in_table = let g = h in omega (arith, B.bracket.hi_le)
 
-      pub search-up : o ≡ Less → Searching (variables_from first n count v ws pool) v key (lo + (hi - lo) / 2 + 1) hi
-      unfolding is_less
+      pub search-up : o ≡ Less → Searching (named ts keys) (length keys) name (low + (high - low) / 2 + 1) high
       search-up q =
           record {
-            bracket = go-up (variables_from first n count v ws pool) key v lo hi table-length S.sorted B.bracket m p h (sym (reads_before m key in_table o Less e q));
+            bracket = go-up (named ts keys) name (length keys) low high names_length S.sorted B.bracket m p h (sym (reads-before m name in_table o Less e q));
             not_there = B.not_there;
           }
 
-      pub search-down : o ≡ Greater → Searching (variables_from first n count v ws pool) v key lo (lo + (hi - lo) / 2)
-      unfolding is_less is_equal
+      pub search-down : o ≡ Greater → Searching (named ts keys) (length keys) name low (low + (high - low) / 2)
       search-down q =
           record {
-            bracket = go-down (variables_from first n count v ws pool) key v lo hi table-length S.sorted B.bracket m p h (sym (reads_before m key in_table o Greater e q));
-            not_there = λ l. sym (reads_same m key in_table o Greater e q);
+            bracket = go-down (named ts keys) name (length keys) low high names_length S.sorted B.bracket m p h (sym (reads-before m name in_table o Greater e q));
+            not_there = λ l. sym (reads-same m name in_table o Greater e q);
           }
 
-      pub search-found : o ≡ Equal → Place.Taken (lo + (hi - lo) / 2) ≡ place_among (variables_from first n count v ws pool) key
-      unfolding is_less is_equal place_among pick
+      pub search-found : o ≡ Equal → Ok (low + (high - low) / 2) ≡ place_among (named ts keys) name
+      unfolding place_among pick
       search-found q =
-          let vs = variables_from first n count v ws pool in
-          let l = table-length in
-          let b = go-down vs key v lo hi table-length S.sorted B.bracket m p h (sym (reads_before m key in_table o Equal e q)) in
-          let z : is_same vs key m ≡ true = sym (reads_same m key in_table o Equal e q) in
-          let k : (key_at vs m).text ≡ key = same-eq (key_at vs m).text key z in
-          let r : m ≡ place_for key vs = bracket-place vs key m (omega (arith, in_table)) (λ i f. is-before (rw k at (pair vs S.sorted i m f (omega (arith, in_table))))) (λ i f g. b.above i f (omega arith)) in
-          let x = found key m r in_table z in
-          rw x.1 (ap Place.Taken x.0)
+          let vs = named ts keys in
+          let l = names_length in
+          let b = go-down vs name (length keys) low high names_length S.sorted B.bracket m p h (sym (reads-before m name in_table o Equal e q)) in
+          let z : is_same vs name m ≡ true = sym (reads-same m name in_table o Equal e q) in
+          let k : (key_at vs m).text ≡ name = same-eq (key_at vs m).text name z in
+          let r : m ≡ place_for name vs = place-between vs name m (omega (arith, in_table)) (λ i f. is-before (rw k at (pair vs S.sorted i m f (omega (arith, in_table))))) (λ i f g. b.above i f (omega arith)) in
+          let x = found name m r in_table z in
+          rw x.1 (ap Ok x.0)

@@ -1,5 +1,5 @@
 -- Variables in byte order, as the workspace holds them: what storing one asks and does, and what looking up references does. Assumes nothing.
-use Rattle.std.specs.Prelude.{ℕ, zero, suc, ◌+◌, ◌*◌, ◌-◌, ◌≤◌, ◌<◌, ◌≡◌, Bool, true, false, List, [], ◌∷◌, ◌++◌, ltb, length, take, drop, set}
+use Rattle.std.specs.Prelude.{ℕ, zero, suc, ◌+◌, ◌*◌, ◌-◌, ◌≤◌, ◌<◌, ◌≡◌, Bool, true, false, List, [], ◌∷◌, ◌++◌, Option, Some, None, Result, Ok, Err, ltb, length, take, drop, set}
 use Rattle.rules.specs.Bytes.{pick, before}
 use Rattle.rules.specs.Tokens.{Token, is_a, text_kind, variable_kind}
 use Rattle.rules.specs.Lines.{Assignment, assigned, insert}
@@ -8,9 +8,6 @@ use Rattle.rules.proofs.TableLaws.{Sorted}
 use Rattle.scan.specs.Stores.{puts}
 use Rattle.tokens.specs.Entries.{decode, token_at}
 use Rattle.workspace.specs.Map.{keys_from, parts_between, variables_from}
-use Rattle.names.specs.declared.Insertion.{Insertion}
-use Rattle.names.specs.declared.Insertion.TheVariants.{Inserted, Duplicate}
-use Rattle.names.specs.declared.Place.{Place}
 
 -- how many names, from the front on, stand before the key: where it is to be stored
 unfoldable pub place_for : List ℕ → List Assignment → ℕ
@@ -35,8 +32,8 @@ pub record Searchable (first n count v : ℕ) (ws pool : List ℕ) : Type 0 wher
   pub sorted : Sorted (variables_from first n count v ws pool)
 
 -- what a search for the key finds: its rank, where it is one of the names; else how many stand before it
-unfoldable pub place_among : List Assignment → List ℕ → Place
-place_among vs key = pick (assigned key vs) (Place.Taken (rank_of key vs)) (Place.Free (place_for key vs))
+unfoldable pub place_among : List Assignment → List ℕ → Result ℕ ℕ
+place_among vs key = pick (assigned key vs) (Ok (rank_of key vs)) (Err (place_for key vs))
 
 -- what storing the variable of key token `key` asks: it comes after the keys stored before it, and is a Text; there is room on both sides of them
 pub record Insertable (first n count v key from end : ℕ) (ws pool : List ℕ) : Type 0 where
@@ -74,8 +71,8 @@ abbrev pub stored : ℕ → ℕ → ℕ → ℕ → ℕ → ℕ → ℕ → List
 stored first n v p key from end ws = set (set (puts ws (first_after first v p) (with_key p key (keys_from first v ws))) (5 * n + key) from) (6 * n + key) end
 
 -- A variable that is assigned already is a duplicate, and nothing changes. Else it goes to its place in byte order, and nothing else changes.
-pub record Inserts (first n count v key from end : ℕ) (pool ws ws' : List ℕ) (r : Insertion) : Type 0 where
-  pub is_answer : r ≡ pick (is_assigned first n count v key ws pool) Duplicate (Inserted (first_after first v (place_of first n count v key ws pool)))
+pub record Inserts (first n count v key from end : ℕ) (pool ws ws' : List ℕ) (r : Option ℕ) : Type 0 where
+  pub is_answer : r ≡ pick (is_assigned first n count v key ws pool) None (Some (first_after first v (place_of first n count v key ws pool)))
   pub is_ws : ws' ≡ pick (is_assigned first n count v key ws pool) ws (stored first n v (place_of first n count v key ws pool) key from end ws)
   pub is_table : is_assigned first n count v key ws pool ≡ false
       → variables_from (first_after first v (place_of first n count v key ws pool)) n count (v + 1) ws' pool ≡ insert (new_one count key from end ws pool) (variables_from first n count v ws pool)

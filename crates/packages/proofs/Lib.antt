@@ -1,8 +1,6 @@
-pub mod Places
-pub mod Finds
-pub mod Measures
-pub mod Puts
-pub mod Writes
-pub mod Values
-pub mod Answers
 pub mod Fields
+pub mod Cutting
+pub mod Entering
+pub mod Records
+pub mod Finding
+pub mod Telling

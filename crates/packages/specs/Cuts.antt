@@ -1,40 +1,25 @@
--- An item by its places in a value. Assumes nothing.
-use Rattle.std.specs.Prelude.{ℕ, ◌+◌, ◌≤◌, ◌≡◌, Bool, List, length, take, drop}
+-- The code's items as the rules'. Assumes nothing.
+use Rattle.std.specs.Prelude.{ℕ, ◌≡◌, ◌<◌, List, drop, Option, Some, None, Result, Ok, Err, MatchOption, MatchResult}
+use Rattle.std.specs.Borrow.{Bor}
 use Rattle.rules.specs.Packages as Rules
-use Rattle.rules.specs.Packages.{is_blank, is_separator, is_word, First, nothing, malformed, item}
-use Rattle.packages.specs.declared.cut.Set.{Set}
-use Rattle.packages.specs.declared.cut.Set.TheVariants.{Separators, Blanks, Word}
-use Rattle.packages.specs.declared.cut.Place.{Place}
-use Rattle.packages.specs.declared.cut.Found.{Found}
-use Rattle.packages.specs.declared.cut.Found.TheVariants.{Nothing, Malformed, Item}
+use Rattle.rules.specs.Packages.{First, nothing, malformed, item, operator_of, operator_size, alone}
+use Rattle.versions.specs.declared.operator.Operator.{Operator}
+use Rattle.versions.specs.Operators.{number_of}
+use Rattle.packages.specs.declared.cut.Item.{Item}
+use Rattle.packages.specs.declared.cut.MalformedItem.{MalformedItem}
 
--- a byte is of the set
-abbrev pub test_of : Set → ℕ → Bool
-test_of Separators = is_separator
-test_of Blanks = is_blank
-test_of Word = is_word
+-- the rules' item
+abbrev pub told_item : Item → Rules.Item
+told_item i = record { name = i.name.now; operator = number_of i.operator; version = i.version.now }
 
--- what stands at the places
-abbrev pub item_at : List ℕ → Place → Rules.Item
-item_at value p = record { name = take p.size (drop p.name value); operator = p.operator; version = take p.extent (drop p.version value) }
+-- what a value begins with
+abbrev pub first_of : Result (Option (Item × Bor (List ℕ))) MalformedItem → First
+first_of (Ok None) = nothing
+first_of (Ok (Some p)) = item (told_item p.0) p.1.now
+first_of (Err e) = malformed
 
-abbrev pub first_of : List ℕ → Found → First
-first_of value Nothing = nothing
-first_of value Malformed = malformed
-first_of value (Item p) = item (item_at value p) (drop p.next value)
-
--- the places are in the value
-pub record Inside (value : List ℕ) (p : Place) : Type 0 where
-  pub name : p.name + p.size ≤ length value
-  pub version : p.version + p.extent ≤ length value
-  pub next : p.next ≤ length value
-
-abbrev pub InsideOf : List ℕ → Found → Type 0
-InsideOf value Nothing = Unit {0}
-InsideOf value Malformed = Unit {0}
-InsideOf value (Item p) = Inside value p
-
--- what was found is this
-pub record Gives (value : List ℕ) (first : First) (found : Found) : Type 0 where
-  pub is_first : first_of value found ≡ first
-  pub inside : InsideOf value found
+-- the operator at the front, and what comes after it; a `!` without `=` is none
+abbrev pub Leads : List ℕ → Result (Option (Operator × Bor (List ℕ))) MalformedItem → Type 0
+Leads text r = MatchResult r
+    (λ o. MatchOption o (operator_of text ≡ 0) (λ p. (0 < number_of p.0) × (number_of p.0 < alone) × (number_of p.0 ≡ operator_of text) × (p.1.now ≡ drop (operator_size (operator_of text)) text)))
+    (λ e. operator_of text ≡ alone)

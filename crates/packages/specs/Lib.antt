@@ -1,3 +1,7 @@
 pub mod Cuts
-pub mod Items
-pub mod Calls
+pub mod Entries
+pub mod Views
+pub mod Numbers
+pub mod Answers
+pub mod Values
+pub mod Found

@@ -1,252 +1,137 @@
-// The item at a place of a value: where its name and version stand, and its operator (document 02, R-1).
-ghost use Rattle.std.specs.Prelude.{◌≡◌, ◌+◌, ◌≤◌, length, take, drop};
-ghost use Rattle.rules.specs.Bytes.{run};
-ghost use Rattle.rules.specs.Packages.{is_blank, is_separator, is_word, starts_with_equals, operator_of, operator_size, skip, with_version, with_operator, first_item};
-ghost use Rattle.packages.specs.Cuts.{test_of, Gives};
+// The items of a value, cut from its front one after another.
+ghost use Rattle.std.specs.Prelude.{◌≡◌, MatchResult};
+ghost use Rattle.rules.specs.Packages as Rules;
+ghost use Rattle.rules.specs.Packages.{is_blank, is_separator, is_word, operator_of, operator_size, alone};
+ghost use Rattle.versions.specs.Operators.{number_of};
+ghost use Rattle.packages.specs.Cuts.{first_of, Leads};
 
-// The bytes that separate items or stand around an operator, and the operators' own.
+use versions::operator::Operator;
+use versions::prefix::split_while;
+
+// A package that a value asks for: its name, and the operator and the version, empty where any version will do.
 #[derive(Clone, Copy)]
-pub struct Sign;
-
-impl Sign {
-    pub const TAB: u8 = 9;
-
-    pub const BLANK: u8 = 32;
-
-    pub const NOT: u8 = 33;
-
-    pub const COMMA: u8 = 44;
-
-    pub const LESS: u8 = 60;
-
-    pub const EQUALS: u8 = 61;
-
-    pub const GREATER: u8 = 62;
+pub struct Item<'a> {
+    pub name: &'a [u8],
+    pub operator: Operator,
+    pub version: &'a [u8],
 }
 
-// The operators by document 02's numbers.
+// It has no name, an operator without a version, or a `!` without `=`.
 #[derive(Clone, Copy)]
-pub struct Operator;
+pub struct MalformedItem;
 
-impl Operator {
-    pub const NONE: u8 = 0;
-
-    pub const EQUAL: u8 = 1;
-
-    pub const LESS: u8 = 2;
-
-    pub const GREATER: u8 = 3;
-
-    pub const AT_MOST: u8 = 4;
-
-    pub const AT_LEAST: u8 = 5;
-
-    pub const UNEQUAL: u8 = 6;
-
-    // a `!` without `=`
-    pub const ALONE: u8 = 7;
-}
-
-// Bytes that a run may be of: separators, blanks, those of a name or version.
-#[derive(Clone, Copy)]
-pub enum Set {
-    Separators,
-    Blanks,
-    Word,
-}
-
-// Where the name and the version of an item stand in a value, its operator, and the place after it.
-#[derive(Clone, Copy)]
-pub struct Place {
-    pub name: usize,
-    // the length of the name
-    pub size: usize,
-    pub operator: u8,
-    pub version: usize,
-    // the length of the version
-    pub extent: usize,
-    pub next: usize,
-}
-
-// What stands at a place of a value.
-#[derive(Clone, Copy)]
-pub enum Found {
-    Nothing,
-    Malformed,
-    Item(Place),
-}
-
+#[tactic(auto, unfolding(rules::specs::Packages::is_blank, rules::specs::Bytes::is))]
 fn is_blank(b: u8) -> bool
     ensures { result ≡ is_blank b }
 {
-    if b == Sign::BLANK {
-        return true;
-    }
-    b == Sign::TAB
+    b == b' ' || b == b'\t'
 }
 
+#[tactic(auto, unfolding(rules::specs::Packages::is_separator, rules::specs::Bytes::is))]
 fn is_separator(b: u8) -> bool
     ensures { result ≡ is_separator b }
 {
-    if is_blank(b) {
-        return true;
-    }
-    b == Sign::COMMA
+    is_blank(b) || b == b','
 }
 
+// Names and versions run up to another byte.
+#[tactic(auto, unfolding(rules::specs::Packages::is_word, rules::specs::Bytes::is))]
 fn is_word(b: u8) -> bool
     ensures { result ≡ is_word b }
 {
-    if is_separator(b) {
-        return false;
-    }
-    if b == Sign::EQUALS {
-        return false;
-    }
-    if b == Sign::LESS {
-        return false;
-    }
-    if b == Sign::GREATER {
-        return false;
-    }
-    b != Sign::NOT
+    !is_separator(b) && b != b'=' && b != b'<' && b != b'>' && b != b'!'
 }
 
-fn passes(set: Set, b: u8) -> bool
-    ensures { result ≡ test_of set b }
+// The longest operator at the front and what comes after it, where one stands there.
+#[tactic(auto, unfolding(rules::specs::Packages::operator_of, rules::specs::Packages::operator_size, rules::specs::Packages::starts_with_equals, rules::specs::Bytes::pick, rules::specs::Bytes::is))]
+fn split_operator(text: &[u8]) -> Result<Option<(Operator, &[u8])>, MalformedItem>
+    ensures { Leads text.now result }
 {
-    match set {
-        Set::Separators => is_separator(b),
-        Set::Blanks => is_blank(b),
-        Set::Word => is_word(b),
+    match text {
+        [b'=', rest @ ..] => Ok(Some((Operator::Equal, rest))),
+        [b'<', b'=', rest @ ..] => Ok(Some((Operator::AtMost, rest))),
+        [b'<', rest @ ..] => Ok(Some((Operator::Less, rest))),
+        [b'>', b'=', rest @ ..] => Ok(Some((Operator::AtLeast, rest))),
+        [b'>', rest @ ..] => Ok(Some((Operator::Greater, rest))),
+        [b'!', b'=', rest @ ..] => Ok(Some((Operator::Unequal, rest))),
+        [b'!', ..] => Err(MalformedItem),
+        _ => Ok(None),
     }
 }
 
-// The place after the bytes of this set from `at` on.
-fn past(value: &[u8], at: usize, set: Set) -> usize
-    requires { at ≤ length value.now }
-    ensures { result ≡ at + run (test_of set) (drop at value.now) }
+// The first item and what comes after it, where there is one.
+pub fn split_first_item(value: &[u8]) -> Result<Option<(Item<'_>, &[u8])>, MalformedItem>
+    ensures { first_of result ≡ Rules.first_item value.now }
 {
-    let mut i = at;
-    while i < value.len() {
-        if passes(set, value[i]) {
-            i += 1;
-        } else {
-            return i;
+    let (_, start) = split_while(is_separator, value);
+    if start.is_empty() {
+        return Ok(None);
+    }
+    let (name, rest) = split_while(is_word, start);
+    if name.is_empty() {
+        return Err(MalformedItem);
+    }
+    let (_, signed) = split_while(is_blank, rest);
+    let Some((operator, after)) = split_operator(signed)? else {
+        let item = Item {
+            name,
+            operator: Operator::Any,
+            version: &[],
+        };
+        return Ok(Some((item, rest)));
+    };
+    let (_, asked) = split_while(is_blank, after);
+    let (version, rest) = split_while(is_word, asked);
+    if version.is_empty() {
+        return Err(MalformedItem);
+    }
+    let item = Item {
+        name,
+        operator,
+        version,
+    };
+    Ok(Some((item, rest)))
+}
+
+// The items of a value, one after another; at a malformed one an error, and nothing after that.
+#[derive(Clone, Copy)]
+pub struct Items<'a> {
+    rest: &'a [u8],
+}
+
+impl<'a> Items<'a> {
+    ghost use Rattle.packages.specs.Entries.{entries_of};
+    ghost use Rattle.packages.specs.Views.{entries_left};
+
+    // From the front of the value on.
+    pub fn new(value: &'a [u8]) -> Self
+        ensures { entries_left result ≡ entries_of value.now }
+    {
+        Items { rest: value }
+    }
+}
+
+impl<'a> Iterator for Items<'a> {
+    ghost use Rattle.std.specs.Iterator.{YieldsFirstBy, item_count};
+    ghost use Rattle.packages.specs.Views.{told_entry, entries_left};
+
+    type Item = Result<Item<'a>, MalformedItem>;
+
+    ghost next_gives = { YieldsFirstBy told_entry entries_left };
+
+    ghost remaining = { item_count entries_left };
+
+    fn next(&mut self) -> Option<Result<Item<'a>, MalformedItem>> {
+        match split_first_item(self.rest) {
+            Ok(None) => None,
+            Ok(Some((item, rest))) => {
+                self.rest = rest;
+                Some(Ok(item))
+            }
+            Err(error) => {
+                self.rest = &[];
+                Some(Err(error))
+            }
         }
     }
-    i
-}
-
-fn equals_at(value: &[u8], at: usize) -> bool
-    ensures { result ≡ starts_with_equals (drop at value.now) }
-{
-    if value.len() <= at {
-        return false;
-    }
-    value[at] == Sign::EQUALS
-}
-
-// The longest operator at a place.
-fn operator_at(value: &[u8], at: usize) -> u8
-    ensures { result ≡ operator_of (drop at value.now) }
-{
-    if value.len() <= at {
-        return Operator::NONE;
-    }
-    let b = value[at];
-    let equals = equals_at(value, at + 1);
-    if b == Sign::EQUALS {
-        return Operator::EQUAL;
-    }
-    if b == Sign::LESS {
-        return if equals {
-            Operator::AT_MOST
-        } else {
-            Operator::LESS
-        };
-    }
-    if b == Sign::GREATER {
-        return if equals {
-            Operator::AT_LEAST
-        } else {
-            Operator::GREATER
-        };
-    }
-    if b == Sign::NOT {
-        return if equals {
-            Operator::UNEQUAL
-        } else {
-            Operator::ALONE
-        };
-    }
-    Operator::NONE
-}
-
-// How many bytes an operator has.
-fn operator_size(operator: u8) -> usize
-    ensures { result ≡ operator_size operator }
-{
-    if operator <= Operator::GREATER { 1 } else { 2 }
-}
-
-// An item with this name and operator, whose version is due from `at` on.
-fn version_at(value: &[u8], name: usize, size: usize, operator: u8, at: usize) -> Found
-    requires { (name + size ≤ length value.now) × (at ≤ length value.now) }
-    ensures { Gives value.now (with_version (take size (drop name value.now)) operator (skip is_blank (drop at value.now))) result }
-{
-    let version = past(value, at, Set::Blanks);
-    let next = past(value, version, Set::Word);
-    if next == version {
-        return Found::Malformed;
-    }
-    Found::Item(Place {
-        name: name,
-        size: size,
-        operator: operator,
-        version: version,
-        extent: next - version,
-        next: next,
-    })
-}
-
-// An item with this name: its operator and version, where there are any.
-fn named_at(value: &[u8], name: usize, size: usize) -> Found
-    requires { name + size ≤ length value.now }
-    ensures { Gives value.now (with_operator (take size (drop name value.now)) (drop (name + size) value.now)) result }
-{
-    let end = name + size;
-    let sign = past(value, end, Set::Blanks);
-    let operator = operator_at(value, sign);
-    if operator == Operator::NONE {
-        return Found::Item(Place {
-            name: name,
-            size: size,
-            operator: Operator::NONE,
-            version: end,
-            extent: 0,
-            next: end,
-        });
-    }
-    if operator == Operator::ALONE {
-        return Found::Malformed;
-    }
-    let after = sign + operator_size(operator);
-    version_at(value, name, size, operator, after)
-}
-
-// What stands at a place, after any separators.
-pub fn item_at(value: &[u8], at: usize) -> Found
-    requires { at ≤ length value.now }
-    ensures { Gives value.now (first_item (drop at value.now)) result }
-{
-    let name = past(value, at, Set::Separators);
-    if value.len() <= name {
-        return Found::Nothing;
-    }
-    let end = past(value, name, Set::Word);
-    if end == name {
-        return Found::Malformed;
-    }
-    named_at(value, name, end - name)
 }

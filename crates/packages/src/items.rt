@@ -1,110 +1,72 @@
-// The items of a value: how many bytes their records need, then the records themselves.
-ghost use Rattle.std.specs.Prelude.{◌≡◌, ◌+◌, ◌≤◌, length, drop};
+// The items of a value, as records: a counter measures them, a buffer stores them.
+ghost use Rattle.std.specs.Prelude.{◌≡◌, ◌+◌, ◌≤◌, ◌++◌, [], ◌∷◌, length};
 ghost use Rattle.rules.specs.Variables.{limit};
 ghost use Rattle.rules.specs.Records.{record_bytes};
 ghost use Rattle.rules.specs.Packages.{items_of, item_records};
-ghost use Rattle.scan.specs.Stores.{puts};
-ghost use Rattle.packages.specs.Cuts.{item_at, Inside};
-ghost use Rattle.packages.specs.Items.{measured, Small, records_of, Fitting};
+ghost use Rattle.packages.specs.Cuts.{told_item};
+ghost use Rattle.packages.specs.Entries.{entries_of, records_in};
+ghost use Rattle.packages.specs.Numbers.{kind_number, field_number, malformed_in};
 
-use crate::cut::{Found, Place, item_at};
-use scan::column::part;
-use scan::little::put_little;
-use scan::store::copy;
+use crate::cut::{Item, Items};
+use crate::field::{Field, Malformed};
+use sink::Sink;
 
 // The kinds of an item's records.
 #[derive(Clone, Copy)]
-pub struct Kind;
+enum Kind {
+    Item = 12,
+    Name = 13,
+    Version = 14,
+}
 
 impl Kind {
-    pub const ITEM: u64 = 12;
-
-    pub const NAME: u64 = 13;
-
-    pub const VERSION: u64 = 14;
-}
-
-// How many bytes the records need; or the index of the first malformed item.
-#[derive(Clone, Copy)]
-pub enum Measured {
-    Need(u64),
-    Malformed(u64),
-}
-
-pub fn measure(value: &[u8]) -> Measured
-    requires { length value.now ≤ limit }
-    ensures need { result ≡ measured (items_of value.now) }
-    ensures small { Small result }
-{
-    let mut at = 0;
-    let mut need: u64 = 0;
-    let mut index: u64 = 0;
-    loop {
-        let f = item_at(value, at);
-        match f {
-            Found::Nothing => {
-                return Measured::Need(need);
-            }
-            Found::Malformed => {
-                return Measured::Malformed(index);
-            }
-            Found::Item(p) => {
-                need += (20 + p.size + p.extent) as u64;
-                index += 1;
-                at = p.next;
-            }
-        }
+    fn number(self) -> u16
+        ensures { result ≡ kind_number self }
+    {
+        self as u16
     }
 }
 
-fn put_record(output: &mut [u8], at: usize, kind: u64, payload: &[u8])
-    requires { at + 6 + length payload.now ≤ length output.old }
-    ensures { output.new ≡ puts output.old at (record_bytes kind payload.now) }
+// The record of this kind.
+#[tactic(auto, using(crate::proofs::Records::record_pieces), unfolding(rules::specs::Variables::limit))]
+fn push_record<S: Sink>(sink: &mut S, kind: Kind, payload: &[u8])
+    requires small { length payload.now ≤ limit }
+    requires room { length (record_bytes (kind_number kind) payload.now) ≤ S.room sink.old }
+    ensures taken { S.Takes sink.old (record_bytes (kind_number kind) payload.now) sink.new }
+    ensures left { S.room sink.new + length (record_bytes (kind_number kind) payload.now) ≡ S.room sink.old }
 {
-    put_little(output, at, 4, payload.len() as u64);
-    put_little(output, at + 4, 2, kind);
-    copy(payload, output, at + 6);
+    sink.push_bytes(&(payload.len() as u32).to_le_bytes());
+    sink.push_bytes(&kind.number().to_le_bytes());
+    sink.push_bytes(payload);
 }
 
 // The three records of an item.
-fn put_item(value: &[u8], p: Place, field: u8, output: &mut [u8], at: usize)
-    requires { Inside value.now p × (at + 20 + p.size + p.extent ≤ length output.old) }
-    ensures { output.new ≡ puts output.old at (item_records field (item_at value.now p)) }
+#[tactic(auto, using(crate::proofs::Records::record_pieces), unfolding(rules::specs::Variables::limit))]
+fn push_item<S: Sink>(sink: &mut S, field: Field, item: &Item)
+    requires name { length item.now.name.now ≤ limit }
+    requires version { length item.now.version.now ≤ limit }
+    requires room { length (item_records (field_number field) (told_item item.now)) ≤ S.room sink.old }
+    ensures taken { S.Takes sink.old (item_records (field_number field) (told_item item.now)) sink.new }
+    ensures left { S.room sink.new + length (item_records (field_number field) (told_item item.now)) ≡ S.room sink.old }
 {
-    let size = p.size;
-    let head = [field, p.operator];
-    put_record(output, at, Kind::ITEM, &head);
-    put_record(output, at + 8, Kind::NAME, part(value, p.name, size));
-    put_record(
-        output,
-        at + 14 + size,
-        Kind::VERSION,
-        part(value, p.version, p.extent),
-    );
+    push_record(sink, Kind::Item, &[field.number(), item.operator.number()]);
+    push_record(sink, Kind::Name, item.name);
+    push_record(sink, Kind::Version, item.version);
 }
 
-// The records of all items go to the output from `at` on, which has room for them; the place after them.
-pub fn write_items(value: &[u8], field: u8, output: &mut [u8], at: usize) -> usize
-    requires { Fitting field (items_of value.now) output.old at }
-    ensures stored { output.new ≡ puts output.old at (records_of field (items_of value.now)) }
-    ensures next { result ≡ at + length (records_of field (items_of value.now)) }
+// The records of a value's items go there, up to a malformed one: an error tells its field and index.
+pub fn push_items<S: Sink>(sink: &mut S, field: Field, value: &[u8]) -> Result<(), Malformed>
+    requires small { length value.now ≤ limit }
+    requires room { length (records_in (field_number field) (entries_of value.now)) ≤ S.room sink.old }
+    ensures taken { S.Takes sink.old (records_in (field_number field) (entries_of value.now)) sink.new }
+    ensures left { S.room sink.new + length (records_in (field_number field) (entries_of value.now)) ≡ S.room sink.old }
+    ensures answer { result ≡ malformed_in field (items_of value.now) }
 {
-    let mut i = 0;
-    let mut k = at;
-    loop {
-        let f = item_at(value, i);
-        match f {
-            Found::Nothing => {
-                return k;
-            }
-            Found::Malformed => {
-                return k;
-            }
-            Found::Item(p) => {
-                put_item(value, p, field, output, k);
-                k = k + 20 + p.size + p.extent;
-                i = p.next;
-            }
-        }
+    for (index, item) in Items::new(value).enumerate() {
+        let Ok(item) = item else {
+            return Err(Malformed { field, index });
+        };
+        push_item(sink, field, &item);
     }
+    Ok(())
 }

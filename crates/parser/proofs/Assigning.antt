@@ -1,42 +1,47 @@
 -- A line with `=`. Assumes nothing.
+use Rattle.std.specs.Prelude.{Option, Some, None, Ok, Err}
+use Rattle.std.specs.List.{list_all}
 use Prim.Native.Nat.{ℕ, ◌+◌, ◌*◌, ◌-◌, ◌≤◌, ◌<◌}
-use mathlib.Core.Path.{◌≡◌, refl, sym, ◌∙◌, ap}
+use mathlib.Core.Path.{◌≡◌, refl, sym, ◌∙◌, ap, subst}
 use mathlib.Core.Bool.{Bool, true, false}
 use mathlib.Core.List.{List, map}
 use native.Mathlib.Omega.{arith}
-use lib.ListN.{length, get_or, drop, length-take}
+use lib.ListN.{length, get_or, take, drop, length-take}
 use lib.Seq.{get_or-take, get_or-drop}
 use Rattle.rules.specs.Bytes.{pick, all}
-use Rattle.rules.specs.Tokens.{no_name, is_a, text_kind, shown_name}
+use Rattle.rules.specs.Tokens.{Token, no_name, is_a, text_kind, shown_name}
 use Rattle.rules.specs.Numbers.{Result, ok, ◌>>=◌, refusal_number, refusal_detail, invalid_variable_name, duplicate_variable}
 use Rattle.rules.specs.Lexing.{is_identifier}
 use Rattle.rules.specs.Lines.{Part, as_part, string_value, Item, assignment, assigned, insert, keep, read_assignment}
 use Rattle.rules.proofs.TableLaws.{insert-sorted}
-use Rattle.answers.specs.declared.Number.TheVariants as Number
-use Rattle.answers.specs.declared.Answer.{Answer}
+use Rattle.answers.specs.declared.Name.{Name}
+use Rattle.answers.specs.declared.Refusal.TheVariants as Told
+use Rattle.answers.specs.Tells.{Names}
+use Rattle.answers.specs.Refusals as Ours
+use Rattle.answers.specs.Refusals.{Refuses}
+use Rattle.answers.proofs.Telling.{refuses, no-names}
 use Rattle.tokens.specs.Entries.{decode, token_at, pool_text}
 use Rattle.workspace.specs.Map.{dropped_kind, between, parts_between, keys_from, starts_of, ends_of, variables_from, field_in, field_of_entry}
-use Rattle.names.specs.declared.Insertion.{Insertion}
-use Rattle.names.specs.declared.Insertion.TheVariants.{Inserted, Duplicate}
 use Rattle.names.specs.Store.{Insertable, Inserts, is_assigned, place_of, with_key, first_after, stored}
 use Rattle.names.proofs.Places.{text-pooled}
 use Rattle.names.proofs.Storing.{place-fits, after-within, stored_other, stored-beyond, stored-keys, stored-start, stored-end, stored-tokens, stored-long}
 use Rattle.lines.specs.Line.{EndsValue, ending_at}
-use Rattle.lines.proofs.Tokens.{is-kind, no_kind}
+use Rattle.lines.proofs.Tokens.{no_kind}
+use Rattle.lines.proofs.Starts.{a_kind}
 use Rattle.lines.proofs.Parts.{parts-map}
 use Rattle.parser.specs.declared.Progress.{Progress}
-use Rattle.parser.specs.declared.Step.TheVariants as Step
-use Rattle.parser.specs.Parse.{Says, VariableWithin, Fresh, Ready, past, Takes, AtValue}
-use Rattle.parser.proofs.Answering.{tells, text-shows}
+use Rattle.parser.specs.Parse.{VariableWithin, Fresh, Ready, Takes, AtValue}
+use Rattle.parser.specs.Places.{past}
+use Rattle.parser.proofs.Answering.{all-list, text-shows}
 use Rattle.parser.proofs.Frames.{Frame, all_map, all_insert, variable-within, field-same, entry-within, left-same, fresh-same}
 use Rattle.parser.proofs.Lines.{past-on, past-in, past-few, past-few-more}
 
 -- a string value is the parts of its tokens, since none is dropped
-pub value-parts : (count end j from to : ℕ) (ws pool : List ℕ) → Fresh count j ws → j ≤ from → end ≤ count → EndsValue count end from ws to
-    → string_value (ending_at count end ws pool) (drop from (decode end ws pool)) ≡ parts_between (decode count ws pool) from to
+pub value-parts : (count end j from to : ℕ) (ws pool : List ℕ) → Fresh count j ws → j ≤ from → end ≤ count → EndsValue (decode count ws pool) end from to
+    → string_value (ending_at (decode count ws pool) end) (drop from (take end (decode count ws pool))) ≡ parts_between (decode count ws pool) from to
 unfolding string_value
 value-parts count end j from to ws pool f h l val =
-    ap (map as_part) (val.is pool)
+    ap (map as_part) val.is
     ∙ sym (parts-map (between (decode count ws pool) from to) (λ k q.
     let m : k < to - from = omega (arith, length-take (to - from) (drop from (decode count ws pool))) in
     rw (get_or-take (to - from) (drop from (decode count ws pool)) k no_name m, get_or-drop from (decode count ws pool) k no_name)
@@ -44,31 +49,31 @@ value-parts count end j from to ws pool f h l val =
 
 module _ (n count end key from : ℕ) (ws pool : List ℕ) (s : Progress) (A : AtValue n count end key from ws pool s) where
   item : Result Item
-  item = read_assignment (token_at (decode count ws pool) key) (ending_at count end ws pool) (drop from (decode end ws pool))
+  item = read_assignment (token_at (decode count ws pool) key) (ending_at (decode count ws pool) end) (drop from (take end (decode count ws pool)))
 
   pub key-text : is_a text_kind (token_at (decode count ws pool) key) ≡ true
-  key-text = is-kind count ws pool key text_kind A.stands.is_text
+  key-text = a_kind (decode count ws pool) key text_kind A.stands.is_text
 
   key-self : shown_name (token_at (decode count ws pool) key) ≡ token_at (decode count ws pool) key
   key-self = text-shows (token_at (decode count ws pool) key) key-text
 
   -- what `is_variable_name` said of the key's text
-  module _ (b : Bool) (text : List ℕ) (t : text ≡ pool_text (token_at (decode count ws pool) key)) (e : b ≡ all is_identifier text) where
+  module _ (b : Bool) (us : List Token) (u : us ≡ decode count ws pool) (text : List ℕ) (t : text ≡ pool_text (token_at us key)) (e : b ≡ list_all (λ (x : ℕ). is_identifier x) text) where
     named : all is_identifier (token_at (decode count ws pool) key).text ≡ b
-    named = sym (e ∙ ap (all is_identifier) (t ∙ text-pooled (token_at (decode count ws pool) key) key-text))
+    named = sym (e ∙ sym (all-list is_identifier text) ∙ ap (all is_identifier) (t ∙ ap (λ (x : List Token). pool_text (token_at x key)) u ∙ text-pooled (token_at (decode count ws pool) key) key-text))
 
-    pub assign-bad : (a : Answer) (ws' : List ℕ) → b ≡ false → Says a Number.InvalidVariableName 0 (shown_name (token_at (decode count ws pool) key))
-        → Takes n count end ws ws' pool s (read_assignment (token_at (decode count ws pool) key) (ending_at count end ws pool) (drop from (decode end ws pool))) (Step.Refused a)
+    pub assign-bad : (k : Name) (ws' : List ℕ) → b ≡ false → Names k (shown_name (token_at (decode count ws pool) key))
+        → Takes n count end ws ws' pool s (read_assignment (token_at (decode count ws pool) key) (ending_at (decode count ws pool) end) (drop from (take end (decode count ws pool)))) (Err (Told.InvalidVariableName k))
     unfolding read_assignment ◌>>=◌ refusal_number refusal_detail
-    assign-bad a ws' y S = λ file H. (
+    assign-bad k ws' y S = λ file H. (
       invalid_variable_name (token_at (decode count ws pool) key),
       rw (named ∙ y, read_assignment, ◌>>=◌) refl,
-      tells a Number.InvalidVariableName 0 (token_at (decode count ws pool) key) (invalid_variable_name (token_at (decode count ws pool) key)) (rw key-self at S) refl refl,
+      refuses (Told.InvalidVariableName k) (invalid_variable_name (token_at (decode count ws pool) key)) 0 k Ours.no_name (token_at (decode count ws pool) key) no_name refl refl refl (rw key-self at S) no-names,
     )
 
-    module _ (y : b ≡ true) (to : ℕ) (val : EndsValue count end from ws to) where
+    module _ (y : b ≡ true) (to : ℕ) (val : EndsValue us end from to) where
       live : s.next < count
-      live = omega (arith, A.stands.key_on, A.stands.value_on, A.stands.inside, A.ends.inside)
+      live = omega (arith, A.stands.key_on, A.stands.value_on, A.stands.inside, A.in_tokens)
 
       pub insert-asks : Insertable s.first n count s.variables key from to ws pool
       insert-asks =
@@ -77,7 +82,7 @@ module _ (n count end key from : ℕ) (ws pool : List ℕ) (s : Progress) (A : A
           let q = R.few_more live in
           let u = A.stands.value_on in
           let w = A.stands.inside in
-          let x = A.ends.inside in
+          let x = A.in_tokens in
           record {
             search = record { room = omega (arith, R.room); tokens = R.tokens; few = omega (arith, R.high, R.tokens); texts = R.texts; sorted = R.sorted };
             older = all_map (VariableWithin n s.next ws) (λ (k : ℕ). k < key) (λ k v. omega (arith, v.key, A.stands.key_on)) (keys_from s.first s.variables ws) R.within.variables;
@@ -95,53 +100,53 @@ module _ (n count end key from : ℕ) (ws pool : List ℕ) (s : Progress) (A : A
       item-is =
           rw (named ∙ y, read_assignment)
           (ap (λ (ps : List Part). ok (assignment (token_at (decode count ws pool) key) ps))
-          (value-parts count end s.next from to ws pool A.ready.fresh (omega (arith, A.stands.key_on, A.stands.value_on)) A.ends.inside val))
+          (value-parts count end s.next from to ws pool A.ready.fresh (omega (arith, A.stands.key_on, A.stands.value_on)) A.in_tokens (subst (λ (x : List Token). EndsValue x end from to) u val)))
 
-      module _ (ws' : List ℕ) (r : Insertion) (I : Inserts s.first n count s.variables key from to pool ws ws' r) where
+      module _ (ws' : List ℕ) (r : Option ℕ) (I : Inserts s.first n count s.variables key from to pool ws ws' r) where
         abbrev begin : ℕ
         begin = first_after s.first s.variables (place_of s.first n count s.variables key ws pool)
 
         around : (s.first - 1 ≤ begin) × (begin ≤ s.first)
         around = after-within s.first s.variables (place_of s.first n count s.variables key ws pool)
 
-        answer : (b : Bool) → is_assigned s.first n count s.variables key ws pool ≡ b → r ≡ pick b Duplicate (Inserted begin)
-        answer b q = I.is_answer ∙ ap (λ (x : Bool). pick x Duplicate (Inserted begin)) q
+        answer : (b : Bool) → is_assigned s.first n count s.variables key ws pool ≡ b → r ≡ pick b None (Some begin)
+        answer b q = I.is_answer ∙ ap (λ (x : Bool). pick x None (Some begin)) q
 
-        is-dup : r ≡ Duplicate → is_assigned s.first n count s.variables key ws pool ≡ true
+        is-dup : r ≡ None → is_assigned s.first n count s.variables key ws pool ≡ true
         unfolding pick
         is-dup d = go (is_assigned s.first n count s.variables key ws pool) refl
           where
             go : (b : Bool) → is_assigned s.first n count s.variables key ws pool ≡ b → is_assigned s.first n count s.variables key ws pool ≡ true
             go true q = q
-            go false q = let z : Inserted begin ≡ Duplicate = sym (answer false q) ∙ d in let x : ◌≡◌ {A = ℕ} 0 1 = cc in absurd (omega arith)
+            go false q = let z : Some begin ≡ None = sym (answer false q) ∙ d in let x : ◌≡◌ {A = ℕ} 0 1 = cc in absurd (omega arith)
 
-        is-new : (m : ℕ) → r ≡ Inserted m → is_assigned s.first n count s.variables key ws pool ≡ false
+        is-new : (m : ℕ) → r ≡ Some m → is_assigned s.first n count s.variables key ws pool ≡ false
         unfolding pick
         is-new m d = go (is_assigned s.first n count s.variables key ws pool) refl
           where
             go : (b : Bool) → is_assigned s.first n count s.variables key ws pool ≡ b → is_assigned s.first n count s.variables key ws pool ≡ false
-            go true q = let z : Inserted m ≡ Duplicate = sym d ∙ answer true q in let x : ◌≡◌ {A = ℕ} 0 1 = cc in absurd (omega arith)
+            go true q = let z : Some m ≡ None = sym d ∙ answer true q in let x : ◌≡◌ {A = ℕ} 0 1 = cc in absurd (omega arith)
             go false q = q
 
-        pub assign-dup : (a : Answer) → r ≡ Duplicate → Says a Number.DuplicateVariable 0 (shown_name (token_at (decode count ws' pool) key))
-            → Takes n count end ws ws' pool s (read_assignment (token_at (decode count ws pool) key) (ending_at count end ws pool) (drop from (decode end ws pool))) (Step.Refused a)
+        pub assign-dup : (k : Name) → r ≡ None → Names k (shown_name (token_at (decode count ws' pool) key))
+            → Takes n count end ws ws' pool s (read_assignment (token_at (decode count ws pool) key) (ending_at (decode count ws pool) end) (drop from (take end (decode count ws pool)))) (Err (Told.DuplicateVariable k))
         unfolding item keep ◌>>=◌ refusal_number refusal_detail pick
-        assign-dup a d S = λ file H.
+        assign-dup k d S = λ file H.
             let w : ws' ≡ ws = I.is_ws ∙ rw (is-dup d) refl in
             let x : assigned (token_at (decode count ws pool) key).text file.variables ≡ true = ap (assigned (token_at (decode count ws pool) key).text) (sym H.holds.variables) ∙ is-dup d in (
               duplicate_variable (token_at (decode count ws pool) key),
               ap (λ (i : Result Item). i >>= keep file) item-is ∙ rw (x, keep) refl,
-              tells a Number.DuplicateVariable 0 (token_at (decode count ws pool) key) (duplicate_variable (token_at (decode count ws pool) key)) (rw (w, key-self) at S) refl refl,
+              refuses (Told.DuplicateVariable k) (duplicate_variable (token_at (decode count ws pool) key)) 0 k Ours.no_name (token_at (decode count ws pool) key) no_name refl refl refl (rw (w, key-self) at S) no-names,
             )
 
-        pub dup-beyond : r ≡ Duplicate → drop (12 * n + 64) ws' ≡ drop (12 * n + 64) ws
+        pub dup-beyond : r ≡ None → drop (12 * n + 64) ws' ≡ drop (12 * n + 64) ws
         unfolding pick
         dup-beyond d = ap (drop (12 * n + 64)) (I.is_ws ∙ rw (is-dup d) refl)
 
-        module _ (m : ℕ) (d : r ≡ Inserted m) where
+        module _ (m : ℕ) (d : r ≡ Some m) where
           begins : m ≡ begin
           unfolding pick
-          begins = let z : ◌≡◌ {A = Insertion} (Inserted m) (Inserted begin) = sym d ∙ answer false (is-new m d) in cc
+          begins = let z : ◌≡◌ {A = Option ℕ} (Some m) (Some begin) = sym d ∙ answer false (is-new m d) in cc
 
           p : ℕ
           p = place_of s.first n count s.variables key ws pool
@@ -198,7 +203,7 @@ module _ (n count end key from : ℕ) (ws pool : List ℕ) (s : Progress) (A : A
           ready-new =
               let R = A.ready in
               let o = past-on count end in
-              let c = past-in count end A.ends.inside in
+              let c = past-in count end A.in_tokens in
               let k1 = A.stands.key_on in
               let k2 = A.stands.value_on in
               let k3 = A.stands.inside in
@@ -223,8 +228,8 @@ module _ (n count end key from : ℕ) (ws pool : List ℕ) (s : Progress) (A : A
                 fresh = fresh-same n count s.next (past count end) ws ws' frame R.tokens R.on (omega arith) R.fresh;
               }
 
-          pub assign-new : (t : Progress) → t.variables ≡ s.variables + 1 → t.first ≡ m → t.seen ≡ s.seen → t.next ≡ past count end
-              → Takes n count end ws ws' pool s (read_assignment (token_at (decode count ws pool) key) (ending_at count end ws pool) (drop from (decode end ws pool))) (Step.More t)
+          pub assign-new : (t : Progress) → t.variables ≡ s.variables + 1 → t.first ≡ m → t.seen.0 ≡ s.seen.0 → t.next ≡ past count end
+              → Takes n count end ws ws' pool s (read_assignment (token_at (decode count ws pool) key) (ending_at (decode count ws pool) end) (drop from (take end (decode count ws pool)))) (Ok t)
           unfolding item keep ◌>>=◌ field_in
           assign-new t a g b c = (
             c,

@@ -1,6 +1,8 @@
 -- A line with `:`. Assumes nothing.
+use Rattle.std.specs.Prelude as Std
+use Rattle.std.specs.Prelude.{Ok, Err}
 use Prim.Native.Nat.{ℕ, suc, ◌+◌, ◌*◌, ◌^◌, ◌≤◌, ◌<◌}
-use mathlib.Core.Path.{◌≡◌, refl, sym, ◌∙◌, ap, ap₂}
+use mathlib.Core.Path.{◌≡◌, refl, sym, ◌∙◌, ap, ap₂, subst}
 use mathlib.Core.Bool.{Bool, true, false}
 use mathlib.Core.List.{List, [], ◌∷◌, ◌++◌, map}
 use mathlib.Core.Option.{none, some}
@@ -10,33 +12,40 @@ use native.Mathlib.Omega.{arith}
 use lib.Bits.{bit_or}
 use lib.Dec.{eqb}
 use lib.ListN.{length, get_or, take, drop, set, length-set, length-take, length-drop}
-use lib.Seq.{ext_get_or, get_or-take, get_or-drop, get_or-set_same, get_or-set_other, drop-set-lt}
+use lib.Seq.{ext_get_or, get_or-take, get_or-drop, get_or-set_same, get_or-set_other}
 use borrow.Author.Tests.{eq-eqb, ne_eqb}
 use Rattle.rules.specs.Bytes.{pick}
 use Rattle.rules.proofs.BytesLaws.{false-true}
 use Rattle.rules.specs.Tokens.{Token, no_name, is_a, text_kind, shown_name}
 use Rattle.rules.specs.Numbers.{Result, ok, ◌>>=◌, refusal_number, refusal_detail, no_detail, unknown_field, duplicate_field, unterminated_quote}
-use Rattle.rules.specs.Lines.{Part, Template, string, list, Field, File, Item, given, is_string, field_at, keep, read_field}
-use Rattle.answers.specs.declared.Number.TheVariants as Number
-use Rattle.answers.specs.declared.Answer.{Answer}
+use Rattle.rules.specs.Lines.{Part, Template, string, list, Field, File, Item, given, is_string, field_at, keep, list_value, read_field}
+use Rattle.answers.specs.declared.Name.{Name}
+use Rattle.answers.specs.declared.Refusal as Answers
+use Rattle.answers.specs.declared.Refusal.TheVariants as Told
+use Rattle.answers.specs.Tells.{Names}
+use Rattle.answers.specs.Refusals as Ours
+use Rattle.answers.specs.Refusals.{Refuses}
+use Rattle.answers.proofs.Telling.{refuses, no-names}
 use Rattle.scan.proofs.Lists.{cell_in}
 use Rattle.tokens.specs.Entries.{decode, token_at, pool_text}
-use Rattle.tokens.proofs.TokenLaws.{decode-same}
+use Rattle.tokens.proofs.TokenLaws.{decode-same, decode-take}
 use Rattle.workspace.specs.Map.{parts_of, parts_between, keys_from, starts_of, ends_of, arguments_from, template_at, variables_from, field_in, field_of_entry}
 use Rattle.names.proofs.Places.{text-pooled}
 use Rattle.fields.specs.Seen.{bit_at, field_number}
-use Rattle.fields.proofs.Keys.{Known, unknown, known, of_number}
+use Rattle.fields.specs.declared.Field as Coded
+use Rattle.fields.specs.Numbers.{number_of}
+use Rattle.fields.proofs.Keys.{of_none, of_some, number-within}
 use Rattle.fields.proofs.Bits.{marks-more, given_by, absent_by}
 use Rattle.lines.specs.Line.{EndsValue, ending_at}
-use Rattle.lines.specs.Rows.{NoneDropped, Keeps, Bounds, Lists}
-use Rattle.lines.specs.declared.list.Listed.TheVariants.{Arguments, Open}
-use Rattle.lines.proofs.Tokens.{is-kind, kind-inside, between-inside}
+use Rattle.lines.specs.Rows.{NoneDropped, Keeps, Lists}
+use Rattle.lines.proofs.Tokens.{kind-inside, between-inside}
+use Rattle.lines.proofs.Starts.{a_kind}
 use Rattle.lines.proofs.Parts.{keeps-none, arguments-same, start-same, end_same}
 use Rattle.lines.proofs.Turns.{token-same}
 use Rattle.parser.specs.declared.Progress.{Progress}
-use Rattle.parser.specs.declared.Step.{Step}
-use Rattle.parser.specs.Parse.{Says, VariableWithin, FieldWithin, EntryWithin, Ready, Held, past, Takes, AtValue, IsField, kept_field, KeepsField}
-use Rattle.parser.proofs.Answering.{tells, text-shows}
+use Rattle.parser.specs.Places.{past}
+use Rattle.parser.specs.Parse.{VariableWithin, FieldWithin, EntryWithin, Ready, Held, Takes, AtValue, IsField, kept_field, KeepsField}
+use Rattle.parser.proofs.Answering.{text-shows}
 use Rattle.parser.proofs.Frames.{Frame, all_map, variables-same, variable-within, texts-same, field-same, entry-within, left-same, fresh-same}
 use Rattle.parser.proofs.Lines.{past-on, past-in}
 use Rattle.parser.proofs.Assigning.{value-parts}
@@ -77,37 +86,35 @@ field-old f (h ∷ fields) g e = go (eqb f h.number) refl (field-old f fields g 
 
 module _ (n count end key from : ℕ) (ws pool : List ℕ) (s : Progress) (A : AtValue n count end key from ws pool s) where
   pub key-is-text : is_a text_kind (token_at (decode count ws pool) key) ≡ true
-  key-is-text = is-kind count ws pool key text_kind A.stands.is_text
+  key-is-text = a_kind (decode count ws pool) key text_kind A.stands.is_text
 
   key-shows : shown_name (token_at (decode count ws pool) key) ≡ token_at (decode count ws pool) key
   key-shows = text-shows (token_at (decode count ws pool) key) key-is-text
 
   -- what `of_key` said of the key's text
-  module _ (f : ℕ) (text : List ℕ) (t : text ≡ pool_text (token_at (decode count ws pool) key)) (e : f ≡ field_number text) where
-    known_by : Known (token_at (decode count ws pool) key).text f
-    known_by = of_number (token_at (decode count ws pool) key).text f (e ∙ ap field_number (t ∙ text-pooled (token_at (decode count ws pool) key) key-is-text))
+  module _ (text : List ℕ) (t : text ≡ pool_text (token_at (decode count ws pool) key)) where
+    key_number : field_number text ≡ field_number (token_at (decode count ws pool) key).text
+    key_number = ap field_number (t ∙ text-pooled (token_at (decode count ws pool) key) key-is-text)
 
-    pub give-unknown : (a : Answer) (ws' : List ℕ) → f ≡ 0 → Says a Number.UnknownField 0 (shown_name (token_at (decode count ws pool) key))
-        → Takes n count end ws ws' pool s (read_field (token_at (decode count ws pool) key) (ending_at count end ws pool) (drop from (decode end ws pool))) (Step.Refused a)
+    pub give-unknown : (k : Name) (ws' : List ℕ) → 0 ≡ field_number text → Names k (shown_name (token_at (decode count ws pool) key))
+        → Takes n count end ws ws' pool s (read_field (token_at (decode count ws pool) key) (ending_at (decode count ws pool) end) (drop from (take end (decode count ws pool)))) (Err (Told.UnknownField k))
     unfolding read_field ◌>>=◌ refusal_number refusal_detail
-    give-unknown a ws' z S = λ file H. (
+    give-unknown k ws' z S = λ file H. (
       unknown_field (token_at (decode count ws pool) key),
-      elim known_by [
-        | unknown q x ↦ rw (x, read_field, ◌>>=◌) refl
-        | known l h x ↦ absurd (omega arith)
-      ],
-      tells a Number.UnknownField 0 (token_at (decode count ws pool) key) (unknown_field (token_at (decode count ws pool) key)) (rw key-shows at S) refl refl,
+      rw (of_none (token_at (decode count ws pool) key).text (z ∙ key_number), read_field, ◌>>=◌) refl,
+      refuses (Told.UnknownField k) (unknown_field (token_at (decode count ws pool) key)) 0 k Ours.no_name (token_at (decode count ws pool) key) no_name refl refl refl (rw key-shows at S) no-names,
     )
 
-    pub give-known : (f ≡ 0 → ⊥) → IsField f (token_at (decode count ws pool) key)
-    give-known z = elim known_by [
-      | unknown q x ↦ absurd (z q)
-      | known l h x ↦ record { low = l; high = h; is = x }
-    ]
+    pub give-known : (g : Coded.Field) → number_of g ≡ field_number text → IsField (number_of g) (token_at (decode count ws pool) key)
+    give-known g e = let w = number-within g in record { low = w.0; high = w.1; is = of_some (token_at (decode count ws pool) key).text g (e ∙ key_number) }
+
+  -- what reading its value as a list asks
+  pub list-fresh : NoneDropped from end ws
+  list-fresh = λ k p q e. A.ready.fresh k (omega (arith, A.stands.key_on, A.stands.value_on)) (omega (arith, A.in_tokens)) (sym (kind-inside end count ws k A.in_tokens q) ∙ e)
 
   -- the line's numbers
   key_in : key < count
-  key_in = omega (arith, A.stands.value_on, A.stands.inside, A.ends.inside)
+  key_in = omega (arith, A.stands.value_on, A.stands.inside, A.in_tokens)
 
   module _ (f : ℕ) (K : IsField f (token_at (decode count ws pool) key)) where
     -- the workspace after the value is read, and after the field is kept
@@ -164,7 +171,7 @@ module _ (n count end key from : ℕ) (ws pool : List ℕ) (s : Progress) (A : A
           let h = A.stands.key_on in
           let l = A.stands.value_on in
           let m = A.stands.inside in
-          let g = A.ends.inside in
+          let g = A.in_tokens in
           let d = A.ready.tokens in
           let o = past-on count end in
           record {
@@ -182,14 +189,14 @@ module _ (n count end key from : ℕ) (ws pool : List ℕ) (s : Progress) (A : A
           let high = A.ready.high in
           let o = A.ready.on in
           let d = A.ready.tokens in
-          let g = A.ends.inside in
+          let g = A.in_tokens in
           part_same s.first s.variables ws w' kept-long
           (λ k x y. all-other k (λ p q. omega arith) (λ p q. omega arith) (λ p q. omega arith) (λ e. omega arith) (λ e. omega arith) (λ e. omega arith))
 
       entry_other : (g : ℕ) → g ≤ 10 → (g ≡ f → ⊥) → get_or w' (12 * n + g) 0 ≡ get_or ws (12 * n + g) 0
       entry_other g l ne =
           let i = small-key in
-          let x = A.ends.inside in
+          let x = A.in_tokens in
           let d = A.ready.tokens in
           all-other (12 * n + g) (λ p q. omega arith) (λ p q. omega arith) (λ p q. omega arith) (λ e. omega arith) (λ e. omega arith) (λ e. ne (omega arith))
 
@@ -198,7 +205,7 @@ module _ (n count end key from : ℕ) (ws pool : List ℕ) (s : Progress) (A : A
           let i = small-key in
           let l = A.stands.value_on in
           let d = A.ready.tokens in
-          let g = A.ends.inside in
+          let g = A.in_tokens in
           let m = A.stands.inside in
           token-same count ws w' pool key (λ k x y. all-other k (λ p q. omega arith) (λ p q. omega arith) (λ p q. omega arith) (λ e. omega arith) (λ e. omega arith) (λ e. omega arith))
 
@@ -208,7 +215,7 @@ module _ (n count end key from : ℕ) (ws pool : List ℕ) (s : Progress) (A : A
         ready-kept =
             let R = A.ready in
             let o = past-on count end in
-            let c = past-in count end A.ends.inside in
+            let c = past-in count end A.in_tokens in
             let on = A.ends.on in
             let k1 = A.stands.key_on in
             let k2 = A.stands.value_on in
@@ -239,19 +246,19 @@ module _ (n count end key from : ℕ) (ws pool : List ℕ) (s : Progress) (A : A
                 rw (entry_other g y ne) (entry-within n count s.next (past count end) ws w' frame A.ready.tokens A.ready.on g (past count end) (get_or ws (12 * n + g) 0) (omega (arith, A.ends.on, past-on count end)) (A.ready.within.fields g x y))
 
         module _ (value : Template) (T : template_at (decode count w' pool) (starts_of n w') (ends_of n w') f key ≡ value)
-            (item : read_field (token_at (decode count ws pool) key) (ending_at count end ws pool) (drop from (decode end ws pool)) ≡ ok (given f (token_at (decode count ws pool) key) value)) where
+            (item : read_field (token_at (decode count ws pool) key) (ending_at (decode count ws pool) end) (drop from (take end (decode count ws pool))) ≡ ok (given f (token_at (decode count ws pool) key) value)) where
           new : Field
           new = record { number = f; key = token_at (decode count ws pool) key; value = value }
 
-          give_kept : (t : Progress) → bit_at s.seen f ≡ false → t.variables ≡ s.variables → t.first ≡ s.first → t.seen ≡ bit_or s.seen (2 ^ f) → t.next ≡ past count end
-              → Takes n count end ws w' pool s (read_field (token_at (decode count ws pool) key) (ending_at count end ws pool) (drop from (decode end ws pool))) (Step.More t)
+          give_kept : (t : Progress) → bit_at s.seen.0 f ≡ false → t.variables ≡ s.variables → t.first ≡ s.first → t.seen.0 ≡ bit_or s.seen.0 (2 ^ f) → t.next ≡ past count end
+              → Takes n count end ws w' pool s (read_field (token_at (decode count ws pool) key) (ending_at (decode count ws pool) end) (drop from (take end (decode count ws pool)))) (Ok t)
           unfolding keep ◌>>=◌ field_in field_of_entry new variables_from
           give_kept t z x1 g x2 x3 = (
             x3,
             rw (x1, g, x3) ready-kept,
             rw x3 (left-same n count s.next (past count end) ws w' frame A.ready.tokens A.ready.on pool),
             λ file H.
-                let lacks = absent_by s.seen file.fields f false H.marks K.high (sym z) refl in (
+                let lacks = absent_by s.seen.0 file.fields f false H.marks K.high (sym z) refl in (
                   record { variables = file.variables; fields = file.fields ++ new ∷ [] },
                   ap (λ (i : Result Item). i >>= keep file) item ∙ rw (lacks, keep) refl,
                   rw (x1, g, x2)
@@ -260,12 +267,12 @@ module _ (n count end key from : ℕ) (ws pool : List ℕ) (s : Progress) (A : A
                           variables = ap (map _) keys-are ∙ variables-same n count s.next (past count end) ws w' frame A.ready.tokens A.ready.on pool (keys_from s.first s.variables ws) A.ready.within.variables ∙ H.holds.variables;
                           fields = λ g l h. each file H lacks g l h (dec_eq g f);
                         };
-                        marks = marks-more s.seen file.fields new H.marks K.high;
+                        marks = marks-more s.seen.0 file.fields new H.marks K.high;
                       }),
                 ),
           )
             where
-              each : (file : File) → Held s.first n count s.variables s.seen ws pool file → field_at f file.fields ≡ none → (g : ℕ) → 1 ≤ g → g ≤ 10 → Dec (g ≡ f) → field_in n count w' pool g ≡ field_at g (file.fields ++ new ∷ [])
+              each : (file : File) → Held s.first n count s.variables s.seen.0 ws pool file → field_at f file.fields ≡ none → (g : ℕ) → 1 ≤ g → g ≤ 10 → Dec (g ≡ f) → field_in n count w' pool g ≡ field_at g (file.fields ++ new ∷ [])
               each file H lacks g l h (yes e) =
                   let u : field_in n count w' pool f ≡ field_at f (file.fields ++ new ∷ []) =
                   ap (field_of_entry (decode count w' pool) (starts_of n w') (ends_of n w') f) kept_entry
@@ -278,18 +285,18 @@ module _ (n count end key from : ℕ) (ws pool : List ℕ) (s : Progress) (A : A
 
         -- kept, or given before
         give-takes : (value : Template) → template_at (decode count (kept_field n key a b f w) pool) (starts_of n (kept_field n key a b f w)) (ends_of n (kept_field n key a b f w)) f key ≡ value
-            → read_field (token_at (decode count ws pool) key) (ending_at count end ws pool) (drop from (decode end ws pool)) ≡ ok (given f (token_at (decode count ws pool) key) value)
-            → (w'' : List ℕ) (r : Step) → KeepsField n count end key a b f w w'' pool s r
-            → Takes n count end ws w'' pool s (read_field (token_at (decode count ws pool) key) (ending_at count end ws pool) (drop from (decode end ws pool))) r
+            → read_field (token_at (decode count ws pool) key) (ending_at (decode count ws pool) end) (drop from (take end (decode count ws pool))) ≡ ok (given f (token_at (decode count ws pool) key) value)
+            → (w'' : List ℕ) (r : Std.Result Progress Answers.Refusal) → KeepsField n count end key a b f w w'' pool s r
+            → Takes n count end ws w'' pool s (read_field (token_at (decode count ws pool) key) (ending_at (decode count ws pool) end) (drop from (take end (decode count ws pool)))) r
         unfolding w' keep ◌>>=◌ refusal_number refusal_detail
-        give-takes value T item w'' (Step.More t) (z, x1, g, x2, x3, x4) = rw x4 (give_kept value T item t z x1 g x2 x3)
-        give-takes value T item w'' (Step.Refused x) (z, S) = λ file H.
-            let g = given_by s.seen file.fields f true H.marks K.high (sym z) refl in
+        give-takes value T item w'' (Ok t) (z, x1, g, x2, x3, x4) = rw x4 (give_kept value T item t z x1 g x2 x3)
+        give-takes value T item w'' (Err x) (z, S) = λ file H.
+            let g = given_by s.seen.0 file.fields f true H.marks K.high (sym z) refl in
             let k : token_at (decode count w pool) key ≡ token_at (decode count ws pool) key =
             token-same count ws w pool key (λ k p q. keeps.same k (λ a b. omega (arith, A.stands.value_on)) (λ a b. omega (arith, small-key)) (λ a b. omega (arith, small-key))) in (
               duplicate_field (token_at (decode count ws pool) key),
               ap (λ (i : Result Item). i >>= keep file) item ∙ rw (g.1, keep) refl,
-              tells x Number.DuplicateField 0 (token_at (decode count ws pool) key) (duplicate_field (token_at (decode count ws pool) key)) (rw (k, key-shows) at S) refl refl,
+              rw (k, key-shows) at S,
             )
 
       -- the tokens, after the field is kept
@@ -300,7 +307,7 @@ module _ (n count end key from : ℕ) (ws pool : List ℕ) (s : Progress) (A : A
           decode-same count w w' pool (λ k l. kept-other k (λ e. omega arith) (λ e. omega arith) (λ e. omega arith))
 
     -- a string field
-    module _ (y : is_string f ≡ true) (to : ℕ) (val : EndsValue count end from ws to) where
+    module _ (y : is_string f ≡ true) (us : List Token) (u : us ≡ decode count ws pool) (to : ℕ) (val : EndsValue us end from to) where
       string-within : FieldWithin n f (past count end) (kept_field n key from to f ws) key
       unfolding w'
       string-within =
@@ -321,42 +328,32 @@ module _ (n count end key from : ℕ) (ws pool : List ℕ) (s : Progress) (A : A
       unfolding template_at pick w'
       string-template = rw y (ap string (ap₂ (λ (p q : ℕ). parts_between (decode count (kept_field n key from to f ws) pool) p q) (kept-start ws (keeps-none n from end ws) from to) (kept-end ws (keeps-none n from end ws) from to) ∙ ap (λ (ts : List Token). parts_between ts from to) (tokens-kept ws (keeps-none n from end ws) from to)))
 
-      string-item : read_field (token_at (decode count ws pool) key) (ending_at count end ws pool) (drop from (decode end ws pool)) ≡ ok (given f (token_at (decode count ws pool) key) (string (parts_between (decode count ws pool) from to)))
+      string-item : read_field (token_at (decode count ws pool) key) (ending_at (decode count ws pool) end) (drop from (take end (decode count ws pool))) ≡ ok (given f (token_at (decode count ws pool) key) (string (parts_between (decode count ws pool) from to)))
       unfolding read_field
       string-item =
           rw (K.is, read_field) (rw y (ap (λ (ps : List Part). ok (given f (token_at (decode count ws pool) key) (string ps)))
-          (value-parts count end s.next from to ws pool A.ready.fresh (omega (arith, A.stands.key_on, A.stands.value_on)) A.ends.inside val)))
+          (value-parts count end s.next from to ws pool A.ready.fresh (omega (arith, A.stands.key_on, A.stands.value_on)) A.in_tokens (subst (λ (x : List Token). EndsValue x end from to) u val))))
 
-      pub give-string : (w'' : List ℕ) (r : Step) → KeepsField n count end key from to f ws w'' pool s r
-          → Takes n count end ws w'' pool s (read_field (token_at (decode count ws pool) key) (ending_at count end ws pool) (drop from (decode end ws pool))) r
+      pub give-string : (w'' : List ℕ) (r : Std.Result Progress Answers.Refusal) → KeepsField n count end key from to f ws w'' pool s r
+          → Takes n count end ws w'' pool s (read_field (token_at (decode count ws pool) key) (ending_at (decode count ws pool) end) (drop from (take end (decode count ws pool)))) r
       unfolding w'
       give-string w'' r k = give-takes ws (keeps-none n from end ws) from to string-within (string (parts_between (decode count ws pool) from to)) string-template string-item w'' r k
 
     -- a list field
+    list-of : (r : Result (List (List Part))) → list_value (drop from (decode end ws pool)) ≡ r → list_value (drop from (take end (decode count ws pool))) ≡ r
+    list-of r l = ap (λ (ts : List Token). list_value (drop from ts)) (sym (decode-take end count ws pool A.in_tokens)) ∙ l
+
     module _ (y : is_string f ≡ false) where
-      pub list-asks : Bounds n from end from 0 from ws × NoneDropped from end ws
-      list-asks = (
-        record {
-          small = A.ready.small;
-          room = omega (arith, A.ready.room);
-          inside = omega (arith, A.ends.inside, A.ready.tokens);
-          on = A.stands.inside;
-          rows_before = omega arith;
-          start_before = omega arith;
-        },
-        λ k p q e. A.ready.fresh k (omega (arith, A.stands.key_on, A.stands.value_on)) (omega (arith, A.ends.inside)) (sym (kind-inside end count ws k A.ends.inside q) ∙ e),
-      )
-
-      pub give-open : (a : Answer) (w : List ℕ) (q : ℕ) → Lists n from end ws w (Open q) → Says a Number.UnterminatedQuote 0 no_name
-          → Takes n count end ws w pool s (read_field (token_at (decode count ws pool) key) (ending_at count end ws pool) (drop from (decode end ws pool))) (Step.Refused a)
+      pub give-open : (w : List ℕ) (q : ℕ) → Lists n from end ws w (Err q)
+          → Takes n count end ws w pool s (read_field (token_at (decode count ws pool) key) (ending_at (decode count ws pool) end) (drop from (take end (decode count ws pool)))) (Err Told.UnterminatedQuote)
       unfolding read_field ◌>>=◌ refusal_number refusal_detail no_detail
-      give-open a w q l S = λ file H. (
+      give-open w q l = λ file H. (
         unterminated_quote (token_at (decode end ws pool) q),
-        rw (K.is, read_field) (rw (y, l pool, ◌>>=◌) refl),
-        tells a Number.UnterminatedQuote 0 no_name (unterminated_quote (token_at (decode end ws pool) q)) S refl refl,
+        rw (K.is, read_field) (rw (y, list-of _ (l pool), ◌>>=◌) refl),
+        refuses Told.UnterminatedQuote (unterminated_quote (token_at (decode end ws pool) q)) 0 Ours.no_name Ours.no_name no_name no_name refl refl refl no-names no-names,
       )
 
-      module _ (w : List ℕ) (keeps : Keeps n from end ws w) (m : ℕ) (l : Lists n from end ws w (Arguments m)) where
+      module _ (w : List ℕ) (keeps : Keeps n from end ws w) (m : ℕ) (l : Lists n from end ws w (Ok m)) where
         rows_same : (k : ℕ) → from ≤ k → k < from + m → (get_or (starts_of n (kept_field n key from m f w)) k 0 ≡ get_or (starts_of n w) k 0) × (get_or (ends_of n (kept_field n key from m f w)) k 0 ≡ get_or (ends_of n w) k 0)
         unfolding w'
         rows_same k p q =
@@ -396,23 +393,18 @@ module _ (n count end key from : ℕ) (ws pool : List ℕ) (s : Progress) (A : A
             let r = l.1 k p q in
             ap₂ (λ (x z : ℕ). parts_between (decode count (kept_field n key from m f w) pool) x z) e.0 e.1
             ∙ ap (λ (ts : List Token). parts_between ts (get_or (starts_of n w) k 0) (get_or (ends_of n w) k 0)) (tokens-kept w keeps from m)
-            ∙ ap parts_of (sym (between-inside end count w pool (get_or (starts_of n w) k 0) (get_or (ends_of n w) k 0) A.ends.inside r.high)))))
+            ∙ ap parts_of (sym (between-inside end count w pool (get_or (starts_of n w) k 0) (get_or (ends_of n w) k 0) A.in_tokens r.high)))))
 
-        list-item : read_field (token_at (decode count ws pool) key) (ending_at count end ws pool) (drop from (decode end ws pool)) ≡ ok (given f (token_at (decode count ws pool) key) (list (arguments_from (decode end w pool) (starts_of n w) (ends_of n w) from m)))
+        list-item : read_field (token_at (decode count ws pool) key) (ending_at (decode count ws pool) end) (drop from (take end (decode count ws pool))) ≡ ok (given f (token_at (decode count ws pool) key) (list (arguments_from (decode end w pool) (starts_of n w) (ends_of n w) from m)))
         unfolding read_field ◌>>=◌
-        list-item = rw (K.is, read_field) (rw (y, l.2 pool, ◌>>=◌) refl)
+        list-item = rw (K.is, read_field) (rw (y, list-of _ (l.2 pool), ◌>>=◌) refl)
 
-        pub give-list : (w'' : List ℕ) (r : Step) → KeepsField n count end key from m f w w'' pool s r
-            → Takes n count end ws w'' pool s (read_field (token_at (decode count ws pool) key) (ending_at count end ws pool) (drop from (decode end ws pool))) r
+        pub give-list : (w'' : List ℕ) (r : Std.Result Progress Answers.Refusal) → KeepsField n count end key from m f w w'' pool s r
+            → Takes n count end ws w'' pool s (read_field (token_at (decode count ws pool) key) (ending_at (decode count ws pool) end) (drop from (take end (decode count ws pool)))) r
         unfolding w'
         give-list w'' r k = give-takes w keeps from m list-within (list (arguments_from (decode end w pool) (starts_of n w) (ends_of n w) from m)) list-template list-item w'' r k
 
 -- the entries past the workspace's part
-pub kept-beyond : (n key a b f : ℕ) (w : List ℕ) → key < n → f ≤ 10 → drop (12 * n + 64) (kept_field n key a b f w) ≡ drop (12 * n + 64) w
-kept-beyond n key a b f w h l =
-    drop-set-lt (12 * n + 64) (set (set w (5 * n + key) a) (6 * n + key) b) (12 * n + f) (key + 1) (omega arith)
-    ∙ drop-set-lt (12 * n + 64) (set w (5 * n + key) a) (6 * n + key) b (omega arith) ∙ drop-set-lt (12 * n + 64) w (5 * n + key) a (omega arith)
-
 pub keeps-beyond : (n from end : ℕ) (ws ws' : List ℕ) → end ≤ n → Keeps n from end ws ws' → drop (12 * n + 64) ws' ≡ drop (12 * n + 64) ws
 keeps-beyond n from end ws ws' h K =
     ext_get_or 0 (drop (12 * n + 64) ws') (drop (12 * n + 64) ws) (omega (arith, length-drop (12 * n + 64) ws', length-drop (12 * n + 64) ws, K.long))

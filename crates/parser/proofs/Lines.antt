@@ -1,32 +1,33 @@
 -- From what one line says to the lines, and from line to line. Assumes nothing.
-use Prim.Native.Nat.{ℕ, zero, suc, ◌+◌, ◌*◌, ◌/◌, ◌≤◌, ◌<◌}
+use Rattle.std.specs.Prelude as Std
+use Rattle.std.specs.Prelude.{Ok, Err}
+use Prim.Native.Nat.{ℕ, ◌+◌, ◌*◌, ◌/◌, ◌≤◌, ◌<◌}
 use mathlib.Core.Path.{◌≡◌, refl, sym, ◌∙◌, ap, subst}
 use mathlib.Core.List.{List, [], ◌∷◌, map}
 use native.Mathlib.Decide.{dec_lt}
 use native.Mathlib.Omega.{arith}
 use lib.ListN.{length, get_or, take, drop, replicate, length-replicate}
 use lib.Seq.{take_at}
+use Rattle.std.proofs.lemmas.List.{get_or-replicate}
 use borrow.Author.Tests.{lt-ltb, le-ltb}
 use Rattle.rules.specs.Bytes.{pick}
 use Rattle.rules.specs.Tokens.{Token}
 use Rattle.rules.specs.Numbers.{Refusal, Result, refused, ok, ◌>>=◌}
-use Rattle.rules.specs.Numbers as Rules
 use Rattle.rules.specs.Lines.{File, Item, Line, empty, no_lines, lines, skip_blanks, after_blanks, read_line, keep, read_lines, field_at}
-use Rattle.answers.specs.declared.Answer.{Answer}
-use Rattle.answers.specs.Tells.{Tells}
+use Rattle.answers.specs.declared.Refusal as Answers
+use Rattle.answers.specs.Refusals.{Refuses}
 use Rattle.tokens.specs.Entries.{decode}
 use Rattle.scan.specs.Stores.{puts}
 use Rattle.scan.proofs.Lists.{length_part}
 use Rattle.scan.proofs.Stores.{length-puts, get_or-puts-below, get_or-puts-above, get_or-stored, drop-puts, drop-stored}
-use Rattle.tokens.proofs.TokenLaws.{token_end, decode-puts, kinds-puts}
+use Rattle.tokens.proofs.TokenLaws.{length-decode, token_end, decode-puts, kinds-puts}
 use Rattle.workspace.specs.Map.{keys_from, starts_of, ends_of, variables_from, field_in, field_of_entry}
 use Rattle.fields.proofs.Bits.{marks-none}
 use Rattle.lines.specs.Line.{EndsLine, line_at}
 use Rattle.lines.proofs.Starts.{line-newline, line-last}
 use Rattle.parser.specs.declared.Progress.{Progress}
-use Rattle.parser.specs.declared.Step.{Step}
-use Rattle.parser.specs.declared.Parsed.{Parsed}
-use Rattle.parser.specs.Parse.{Within, Ready, Held, past, Takes, Steps, NoFields, Parsable, FileHeld, Parses}
+use Rattle.parser.specs.Places.{past}
+use Rattle.parser.specs.Parse.{Within, Ready, Held, Takes, Steps, NoFields, Parsable, FileHeld, Parses}
 use Rattle.parser.proofs.Frames.{Frame, all_map, variables-same, variable-within, texts-same, field-same, entry-within, fresh-same}
 
 -- the token past a line
@@ -72,58 +73,53 @@ step-no file r l ls e = go (read_line l) refl
     go (refused q) p = let z : ◌≡◌ {A = Result File} (refused q) (refused r) = sym (rw (p, ◌>>=◌) refl) ∙ e in let y : q ≡ r = cc in rw (p, read_lines, ◌>>=◌) (ap refused y)
     go (ok item) p = let z : keep file item ≡ refused r = sym (rw (p, ◌>>=◌) refl) ∙ e in rw (p, read_lines, ◌>>=◌) (rw (z, ◌>>=◌) refl)
 
-zeros-at : (m f : ℕ) → get_or (replicate {A = ℕ} m 0) f 0 ≡ 0
-zeros-at zero f = refl
-zeros-at (suc m) zero = refl
-zeros-at (suc m) (suc f) = zeros-at m f
-
 -- no token is left
 pub lines_none : (file : File) → read_lines file (lines []) ≡ ok file
 unfolding lines read_lines read_line after_blanks skip_blanks keep ◌>>=◌
 lines_none file = refl
 
 -- THE LAW of a line
-module _ (n count end : ℕ) (ws ws' pool : List ℕ) (s : Progress) (E : EndsLine count s.next ws end) (live : s.next < count) where
-  rest-after : (file : File) → (rest : List Line) × (lines (drop s.next (decode count ws pool)) ≡ line_at count end ws pool s.next ∷ rest) × (read_lines file rest ≡ read_lines file (lines (drop (past count end) (decode count ws pool))))
+module _ (n count end : ℕ) (ws ws' pool : List ℕ) (s : Progress) (E : EndsLine (decode count ws pool) s.next end) (live : s.next < count) where
+  rest-after : (file : File) → (rest : List Line) × (lines (drop s.next (decode count ws pool)) ≡ line_at (decode count ws pool) end s.next ∷ rest) × (read_lines file rest ≡ read_lines file (lines (drop (past count end) (decode count ws pool))))
   unfolding read_lines
   rest-after file = elim (dec_lt end count) [
-    | yes h ↦ (lines (drop (end + 1) (decode count ws pool)), line-newline count s.next ws end E pool h, ap (λ (k : ℕ). read_lines file (lines (drop k (decode count ws pool)))) (sym (past-newline count end h)))
+    | yes h ↦ (lines (drop (end + 1) (decode count ws pool)), line-newline (decode count ws pool) s.next end E (omega (arith, length-decode count ws pool)), ap (λ (k : ℕ). read_lines file (lines (drop k (decode count ws pool)))) (sym (past-newline count end h)))
     | no h ↦ (
       [],
-      line-last count s.next ws end E pool (omega arith),
+      line-last (decode count ws pool) s.next end E (omega (arith, length-decode count ws pool)),
       sym (ap (λ (l : List Token). read_lines file (lines l)) (token_end count ws pool (past count end) (omega (arith, past-text count end (omega arith)))) ∙ lines_none file),
     )
   ]
 
-  pub steps : (r : Step) → Takes n count end ws ws' pool s (read_line (line_at count end ws pool s.next)) r → Steps n count ws ws' pool s r
-  steps (Step.More t) (e, R, D, f) = (
+  pub steps : (r : Std.Result Progress Answers.Refusal) → Takes n count end ws ws' pool s (read_line (line_at (decode count ws pool) end s.next)) r → Steps n count ws ws' pool s r
+  steps (Ok t) (e, R, D, f) = (
     R,
     omega (arith, past_more count end s.next E.on live),
     λ file H.
         let x = f file H in
         let y = rest-after x.0 in (
           x.0,
-          ap (read_lines file) y.1 ∙ step_ok file x.0 (line_at count end ws pool s.next) y.0 x.1 ∙ y.2
+          ap (read_lines file) y.1 ∙ step_ok file x.0 (line_at (decode count ws pool) end s.next) y.0 x.1 ∙ y.2
               ∙ ap (λ (l : List Token). read_lines x.0 (lines l)) (ap (λ (k : ℕ). drop k (decode count ws pool)) (sym e) ∙ sym D),
           x.2,
         ),
   )
-  steps (Step.Refused a) f =
+  steps (Err a) f =
       λ file H.
       let x = f file H in
       let y = rest-after file in
-      (x.0, ap (read_lines file) y.1 ∙ step-no file x.0 (line_at count end ws pool s.next) y.0 x.1, x.2)
+      (x.0, ap (read_lines file) y.1 ∙ step-no file x.0 (line_at (decode count ws pool) end s.next) y.0 x.1, x.2)
 
 -- a line that says nothing
 frame_same : (n j next : ℕ) (ws : List ℕ) → Frame n j next ws ws
 frame_same n j next ws = record { tokens = λ k h. refl; starts = λ k h l. refl; ends = λ k h l. refl; after = λ k h l. refl }
 
-pub takes-empty : (n count end : ℕ) (ws pool : List ℕ) (s : Progress) (item : Result Item) → Ready s.first n count s.variables s.next ws pool → s.next < count → EndsLine count s.next ws end
-    → item ≡ ok empty → (t : Progress) → t.variables ≡ s.variables → t.first ≡ s.first → t.seen ≡ s.seen → t.next ≡ past count end → Takes n count end ws ws pool s item (Step.More t)
+pub takes-empty : (n count end : ℕ) (ws pool : List ℕ) (s : Progress) (item : Result Item) → Ready s.first n count s.variables s.next ws pool → s.next < count → EndsLine (decode count ws pool) s.next end
+    → item ≡ ok empty → (t : Progress) → t.variables ≡ s.variables → t.first ≡ s.first → t.seen.0 ≡ s.seen.0 → t.next ≡ past count end → Takes n count end ws ws pool s item (Ok t)
 unfolding keep ◌>>=◌
 takes-empty n count end ws pool s item R live E e t a g b d =
     let p = past-on count end in
-    let l = past-in count end E.inside in
+    let l = past-in count end (omega (arith, E.inside, length-decode count ws pool)) in
     let on = E.on in
     let F = frame_same n s.next (past count end) ws in (
       d,
@@ -149,20 +145,20 @@ takes-empty n count end ws pool s item R live E e t a g b d =
       λ file H. (file, rw (e, ◌>>=◌) refl, rw (a, g, b) H),
     )
 
-pub takes-refused : (n count end : ℕ) (ws ws' pool : List ℕ) (s : Progress) (item : Result Item) (r : Refusal) (a : Answer) → item ≡ refused r → Tells a (Rules.refusal r) → Takes n count end ws ws' pool s item (Step.Refused a)
+pub takes-refused : (n count end : ℕ) (ws ws' pool : List ℕ) (s : Progress) (item : Result Item) (r : Refusal) (a : Answers.Refusal) → item ≡ refused r → Refuses a r → Takes n count end ws ws' pool s item (Err a)
 unfolding ◌>>=◌
 takes-refused n count end ws ws' pool s item r a e T = λ file H. (r, rw (e, ◌>>=◌) refl, T)
 
-pub takes-item : (n count end : ℕ) (ws ws' pool : List ℕ) (s : Progress) (item item' : Result Item) (r : Step) → item ≡ item' → Takes n count end ws ws' pool s item' r → Takes n count end ws ws' pool s item r
+pub takes-item : (n count end : ℕ) (ws ws' pool : List ℕ) (s : Progress) (item item' : Result Item) (r : Std.Result Progress Answers.Refusal) → item ≡ item' → Takes n count end ws ws' pool s item' r → Takes n count end ws ws' pool s item r
 takes-item n count end ws ws' pool s item item' r e T = subst (λ (x : Result Item). Takes n count end ws ws' pool s x r) (sym e) T
 
 -- the loop over lines
 pub record Parsing (n count : ℕ) (ws₀ ws pool : List ℕ) (s : Progress) : Type 0 where
   pub ready : Ready s.first n count s.variables s.next ws pool
   pub beyond : drop (12 * n + 64) ws ≡ drop (12 * n + 64) ws₀
-  pub left : (file : File) × (read_lines no_lines (lines (decode count ws₀ pool)) ≡ read_lines file (lines (drop s.next (decode count ws pool)))) × Held s.first n count s.variables s.seen ws pool file
+  pub left : (file : File) × (read_lines no_lines (lines (decode count ws₀ pool)) ≡ read_lines file (lines (drop s.next (decode count ws pool)))) × Held s.first n count s.variables s.seen.0 ws pool file
 
-pub parse-begin : (n count : ℕ) (ws pool : List ℕ) (s : Progress) → s.variables ≡ 0 → s.first ≡ 4 * n + n / 2 → s.seen ≡ 0 → s.next ≡ 0 → Parsable n count ws → NoFields n ws → Parsing n count ws ws pool s
+pub parse-begin : (n count : ℕ) (ws pool : List ℕ) (s : Progress) → s.variables ≡ 0 → s.first ≡ 4 * n + n / 2 → s.seen.0 ≡ 0 → s.next ≡ 0 → Parsable n count ws → NoFields n ws → Parsing n count ws ws pool s
 unfolding no_lines variables_from field_in field_of_entry field_at
 parse-begin n count ws pool s a g b d P z =
     record {
@@ -185,12 +181,12 @@ parse-begin n count ws pool s a g b d P z =
     }
 
 module _ (n count : ℕ) (ws₀ ws ws' pool : List ℕ) (s : Progress) (P : Parsing n count ws₀ ws pool s) (B : drop (12 * n + 64) ws' ≡ drop (12 * n + 64) ws) where
-  pub parse-more : (t : Progress) → Steps n count ws ws' pool s (Step.More t) → Parsing n count ws₀ ws' pool t
+  pub parse-more : (t : Progress) → Steps n count ws ws' pool s (Ok t) → Parsing n count ws₀ ws' pool t
   parse-more t (R, l, f) =
       let x = f P.left.0 P.left.2 in
       record { ready = R; beyond = B ∙ P.beyond; left = (x.0, P.left.1 ∙ x.1, x.2) }
 
-  pub parse-refused : (a : Answer) → Steps n count ws ws' pool s (Step.Refused a) → Parses n count ws₀ ws' pool (Parsed.Refused a)
+  pub parse-refused : (a : Answers.Refusal) → Steps n count ws ws' pool s (Err a) → Parses n count ws₀ ws' pool (Err a)
   parse-refused a f = let x = f P.left.0 P.left.2 in (x.0, P.left.1 ∙ x.1, x.2)
 
 -- the keys go to 4n
@@ -262,12 +258,12 @@ module _ (n count : ℕ) (ws₀ ws pool : List ℕ) (s : Progress) (P : Parsing 
   pub settle-asks : (4 * n ≤ s.first) × (s.first + s.variables ≤ length ws)
   settle-asks = let R = read in (omega (arith, R.low, R.few, R.tokens), omega (arith, R.high, R.few, R.tokens, R.room))
 
-  pub parse-done : (ws' : List ℕ) → ws' ≡ puts ws (4 * n) (keys_from s.first s.variables ws) → Parses n count ws₀ ws' pool (Parsed.Lines s.variables)
+  pub parse-done : (ws' : List ℕ) → ws' ≡ puts ws (4 * n) (keys_from s.first s.variables ws) → Parses n count ws₀ ws' pool (Ok s.variables)
   unfolding settled
   parse-done w e = (
     P.left.0,
     P.left.1 ∙ ap (λ (l : List Token). read_lines P.left.0 (lines l)) (token_end count ws pool s.next h) ∙ lines_none P.left.0,
-    rw e (settled-held s.first n count s.variables ws pool read s.seen P.left.0 P.left.2),
+    rw e (settled-held s.first n count s.variables ws pool read s.seen.0 P.left.0 P.left.2),
   )
 
   pub done-beyond : (ws' : List ℕ) → ws' ≡ puts ws (4 * n) (keys_from s.first s.variables ws) → drop (12 * n + 64) ws' ≡ drop (12 * n + 64) ws₀
@@ -290,11 +286,11 @@ module _ (n count : ℕ) (ws : List ℕ) (P : Parsable n count ws) where
   pub cleared-fields : NoFields n (puts ws (12 * n) (replicate {A = ℕ} 11 0))
   cleared-fields f h =
       let l : length (replicate {A = ℕ} 11 0) ≡ 11 = length-replicate {A = ℕ} 11 0 in
-      get_or-stored ws (12 * n) (replicate {A = ℕ} 11 0) (omega (arith, P.room)) f 0 (omega arith) ∙ zeros-at 11 f
+      get_or-stored ws (12 * n) (replicate {A = ℕ} 11 0) (omega (arith, P.room)) f 0 (omega arith) ∙ get_or-replicate {A = ℕ} 11 f 0 0 (omega arith)
 
-  pub cleared-parses : (ws' pool : List ℕ) (r : Parsed) → Parses n count (puts ws (12 * n) (replicate {A = ℕ} 11 0)) ws' pool r → Parses n count ws ws' pool r
-  cleared-parses ws' pool (Parsed.Lines v) (x, y, z) = (x, ap (λ (ts : List Token). read_lines no_lines (lines ts)) (sym (decode-puts count ws pool (12 * n) (replicate {A = ℕ} 11 0) (omega (arith, P.tokens)))) ∙ y, z)
-  cleared-parses ws' pool (Parsed.Refused a) (x, y, z) = (x, ap (λ (ts : List Token). read_lines no_lines (lines ts)) (sym (decode-puts count ws pool (12 * n) (replicate {A = ℕ} 11 0) (omega (arith, P.tokens)))) ∙ y, z)
+  pub cleared-parses : (ws' pool : List ℕ) (r : Std.Result ℕ Answers.Refusal) → Parses n count (puts ws (12 * n) (replicate {A = ℕ} 11 0)) ws' pool r → Parses n count ws ws' pool r
+  cleared-parses ws' pool (Ok v) (x, y, z) = (x, ap (λ (ts : List Token). read_lines no_lines (lines ts)) (sym (decode-puts count ws pool (12 * n) (replicate {A = ℕ} 11 0) (omega (arith, P.tokens)))) ∙ y, z)
+  cleared-parses ws' pool (Err a) (x, y, z) = (x, ap (λ (ts : List Token). read_lines no_lines (lines ts)) (sym (decode-puts count ws pool (12 * n) (replicate {A = ℕ} 11 0) (omega (arith, P.tokens)))) ∙ y, z)
 
   pub cleared-beyond : drop (12 * n + 64) (puts ws (12 * n) (replicate {A = ℕ} 11 0)) ≡ drop (12 * n + 64) ws
   cleared-beyond = let l : length (replicate {A = ℕ} 11 0) ≡ 11 = length-replicate {A = ℕ} 11 0 in drop-puts (12 * n + 64) ws (12 * n) (replicate {A = ℕ} 11 0) (omega arith)

@@ -1,33 +1,24 @@
 -- What reading lines leaves in the workspace, and what it answers. Assumes nothing.
-use Rattle.std.specs.Prelude.{ℕ, zero, suc, ◌+◌, ◌*◌, ◌/◌, ◌^◌, ◌≤◌, ◌<◌, ◌≡◌, true, false, List, ltb, length, get_or, drop, set}
+use Rattle.std.specs.Prelude as Std
+use Rattle.std.specs.Prelude.{ℕ, zero, suc, ◌+◌, ◌*◌, ◌/◌, ◌^◌, ◌≤◌, ◌<◌, ◌≡◌, true, false, List, Ok, Err, ltb, length, get_or, take, drop, set}
 use Rattle.std.proofs.Math.Option.{some}
 use Rattle.std.specs.Int.Bits.{bit_or}
-use Rattle.rules.specs.Bytes.{pick}
-use Rattle.rules.specs.Tokens.{Token, no_name, shown_name}
-use Rattle.rules.specs.Numbers.{Refusal, Result, refused, ok, ◌>>=◌}
-use Rattle.rules.specs.Numbers as Rules
-use Rattle.rules.specs.Lines.{File, Item, no_lines, lines, keep, read_lines, is_string, field, field_keys}
+use Rattle.rules.specs.Tokens.{Token, shown_name}
+use Rattle.rules.specs.Numbers.{Refusal, Result, duplicate_field, refused, ok, ◌>>=◌}
+use Rattle.rules.specs.Lines.{File, Item, no_lines, lines, keep, read_assignment, read_field, read_lines, is_string, field, field_keys}
 use Rattle.rules.proofs.TableLaws.{Sorted}
-use Rattle.answers.specs.declared.Number.{Number}
-use Rattle.answers.specs.declared.Number.TheVariants.{DuplicateField}
-use Rattle.answers.specs.declared.Answer.{Answer}
-use Rattle.answers.specs.Tells.{Names, Tells}
+use Rattle.answers.specs.declared.Refusal as Answers
+use Rattle.answers.specs.Refusals.{Refuses}
 use Rattle.tokens.specs.Entries.{decode, token_at, kind_at}
 use Rattle.workspace.specs.Map.{dropped_kind, keys_from, keys_of, starts_of, ends_of, variables_from, variables_in, HoldsFrom, Holds, Room}
 use Rattle.names.specs.Store.{All, Texts}
 use Rattle.fields.specs.Seen.{bit_at, Marks}
-use Rattle.lines.specs.Line.{EndsLine, Stands}
+use Rattle.lines.specs.Line.{EndsLine, Stands, ending_at}
 use Rattle.lines.specs.Rows.{RowWithin}
 use Rattle.parser.specs.declared.Progress.{Progress}
-use Rattle.parser.specs.declared.Step.{Step}
-use Rattle.parser.specs.declared.Parsed.{Parsed}
-
--- the answer has this number, this value, the name of this token, and no second name
-pub record Says (a : Answer) (number : Number) (value : ℕ) (t : Token) : Type 0 where
-  pub is_number : a.number ≡ number
-  pub is_value : a.detail.value ≡ value
-  pub is_first : Names a.detail.first t
-  pub is_second : Names a.detail.second no_name
+use Rattle.parser.specs.declared.places.Layout.{Layout}
+use Rattle.parser.specs.declared.places.Line.{Line}
+use Rattle.parser.specs.Places.{past}
 
 -- the value of the variable whose key is token k lies before token j
 pub record VariableWithin (n j : ℕ) (ws : List ℕ) (k : ℕ) : Type 0 where
@@ -76,24 +67,34 @@ pub record Held (first n count v seen : ℕ) (ws pool : List ℕ) (file : File) 
   pub holds : HoldsFrom first n count v ws pool file
   pub marks : Marks seen file.fields
 
--- the first token past the line that ends at `end`
-abbrev pub past : ℕ → ℕ → ℕ
-past count end = pick (ltb end count) (end + 1) end
-
 -- what a line that reads as `item` makes of the lines before it
-abbrev pub Takes : ℕ → ℕ → ℕ → List ℕ → List ℕ → List ℕ → Progress → Result Item → Step → Type 0
-Takes n count end ws ws' pool s item (Step.More t) =
+abbrev pub Takes : ℕ → ℕ → ℕ → List ℕ → List ℕ → List ℕ → Progress → Result Item → Std.Result Progress Answers.Refusal → Type 0
+Takes n count end ws ws' pool s item (Ok t) =
     (t.next ≡ past count end) × Ready t.first n count t.variables t.next ws' pool × (drop t.next (decode count ws' pool) ≡ drop t.next (decode count ws pool))
-    × ((file : File) → Held s.first n count s.variables s.seen ws pool file
-    → (more : File) × ((item >>= keep file) ≡ ok more) × Held t.first n count t.variables t.seen ws' pool more)
-Takes n count end ws ws' pool s item (Step.Refused a) =
-    (file : File) → Held s.first n count s.variables s.seen ws pool file → (r : Refusal) × ((item >>= keep file) ≡ refused r) × Tells a (Rules.refusal r)
+    × ((file : File) → Held s.first n count s.variables s.seen.0 ws pool file
+    → (more : File) × ((item >>= keep file) ≡ ok more) × Held t.first n count t.variables t.seen.0 ws' pool more)
+Takes n count end ws ws' pool s item (Err a) =
+    (file : File) → Held s.first n count s.variables s.seen.0 ws pool file → (r : Refusal) × ((item >>= keep file) ≡ refused r) × Refuses a r
 
 -- a line whose key and value stand at `key` and `from`
 pub record AtValue (n count end key from : ℕ) (ws pool : List ℕ) (s : Progress) : Type 0 where
   pub ready : Ready s.first n count s.variables s.next ws pool
-  pub ends : EndsLine count s.next ws end
-  pub stands : Stands count end s.next key from ws
+  pub ends : EndsLine (decode count ws pool) s.next end
+  pub in_tokens : end ≤ count
+  pub stands : Stands (decode count ws pool) end s.next key from
+
+-- the same by layout and line: where it stands, what it makes, and what it says with `=` or `:`
+abbrev pub AtLine : Layout → Line → List ℕ → List ℕ → Progress → Type 0
+AtLine layout line ws pool s = AtValue layout.n layout.count line.end line.key line.from ws pool s
+
+abbrev pub TakesLine : Layout → Line → List ℕ → List ℕ → List ℕ → Progress → Result Item → Std.Result Progress Answers.Refusal → Type 0
+TakesLine layout line ws ws' pool s item r = Takes layout.n layout.count line.end ws ws' pool s item r
+
+abbrev pub assignment_in : Layout → Line → List ℕ → List ℕ → Result Item
+assignment_in layout line ws pool = let ts = decode layout.count ws pool in read_assignment (token_at ts line.key) (ending_at ts line.end) (drop line.from (take line.end ts))
+
+abbrev pub field_in_line : Layout → Line → List ℕ → List ℕ → Result Item
+field_in_line layout line ws pool = let ts = decode layout.count ws pool in read_field (token_at ts line.key) (ending_at ts line.end) (drop line.from (take line.end ts))
 
 -- f is the number of the key's field
 pub record IsField (f : ℕ) (key : Token) : Type 0 where
@@ -105,23 +106,23 @@ pub record IsField (f : ℕ) (key : Token) : Type 0 where
 abbrev pub kept_field : ℕ → ℕ → ℕ → ℕ → ℕ → List ℕ → List ℕ
 kept_field n key a b f ws = set (set (set ws (5 * n + key) a) (6 * n + key) b) (12 * n + f) (key + 1)
 
-abbrev pub KeepsField : ℕ → ℕ → ℕ → ℕ → ℕ → ℕ → ℕ → List ℕ → List ℕ → List ℕ → Progress → Step → Type 0
-KeepsField n count end key a b f ws ws' pool s (Step.More t) =
-    (bit_at s.seen f ≡ false) × (t.variables ≡ s.variables) × (t.first ≡ s.first) × (t.seen ≡ bit_or s.seen (2 ^ f)) × (t.next ≡ past count end) × (ws' ≡ kept_field n key a b f ws)
-KeepsField n count end key a b f ws ws' pool s (Step.Refused x) = (bit_at s.seen f ≡ true) × Says x DuplicateField 0 (shown_name (token_at (decode count ws pool) key))
+abbrev pub KeepsField : ℕ → ℕ → ℕ → ℕ → ℕ → ℕ → ℕ → List ℕ → List ℕ → List ℕ → Progress → Std.Result Progress Answers.Refusal → Type 0
+KeepsField n count end key a b f ws ws' pool s (Ok t) =
+    (bit_at s.seen.0 f ≡ false) × (t.variables ≡ s.variables) × (t.first ≡ s.first) × (t.seen.0 ≡ bit_or s.seen.0 (2 ^ f)) × (t.next ≡ past count end) × (ws' ≡ kept_field n key a b f ws)
+KeepsField n count end key a b f ws ws' pool s (Err x) = (bit_at s.seen.0 f ≡ true) × Refuses x (duplicate_field (shown_name (token_at (decode count ws pool) key)))
 
 -- what is past the workspace's part for a text of n bytes is as it was
 abbrev pub Beyond : ℕ → List ℕ → List ℕ → Type 0
 Beyond n ws ws' = drop (12 * n + 64) ws' ≡ drop (12 * n + 64) ws
 
 -- what one line makes of the lines before it
-abbrev pub Steps : ℕ → ℕ → List ℕ → List ℕ → List ℕ → Progress → Step → Type 0
-Steps n count ws ws' pool s (Step.More t) =
+abbrev pub Steps : ℕ → ℕ → List ℕ → List ℕ → List ℕ → Progress → Std.Result Progress Answers.Refusal → Type 0
+Steps n count ws ws' pool s (Ok t) =
     Ready t.first n count t.variables t.next ws' pool × (s.next < t.next)
-    × ((file : File) → Held s.first n count s.variables s.seen ws pool file
-    → (more : File) × (read_lines file (lines (drop s.next (decode count ws pool))) ≡ read_lines more (lines (drop t.next (decode count ws' pool)))) × Held t.first n count t.variables t.seen ws' pool more)
-Steps n count ws ws' pool s (Step.Refused a) =
-    (file : File) → Held s.first n count s.variables s.seen ws pool file → (r : Refusal) × (read_lines file (lines (drop s.next (decode count ws pool))) ≡ refused r) × Tells a (Rules.refusal r)
+    × ((file : File) → Held s.first n count s.variables s.seen.0 ws pool file
+    → (more : File) × (read_lines file (lines (drop s.next (decode count ws pool))) ≡ read_lines more (lines (drop t.next (decode count ws' pool)))) × Held t.first n count t.variables t.seen.0 ws' pool more)
+Steps n count ws ws' pool s (Err a) =
+    (file : File) → Held s.first n count s.variables s.seen.0 ws pool file → (r : Refusal) × (read_lines file (lines (drop s.next (decode count ws pool))) ≡ refused r) × Refuses a r
 
 -- no field is in the workspace
 abbrev pub NoFields : ℕ → List ℕ → Type 0
@@ -143,6 +144,6 @@ pub record FileHeld (n count v : ℕ) (ws pool : List ℕ) (file : File) : Type 
   pub sorted : Sorted (variables_in n count v ws pool)
 
 -- THE ANSWER: the file that the workspace holds, or the first refusal
-abbrev pub Parses : ℕ → ℕ → List ℕ → List ℕ → List ℕ → Parsed → Type 0
-Parses n count ws ws' pool (Parsed.Lines v) = (file : File) × (read_lines no_lines (lines (decode count ws pool)) ≡ ok file) × FileHeld n count v ws' pool file
-Parses n count ws ws' pool (Parsed.Refused a) = (r : Refusal) × (read_lines no_lines (lines (decode count ws pool)) ≡ refused r) × Tells a (Rules.refusal r)
+abbrev pub Parses : ℕ → ℕ → List ℕ → List ℕ → List ℕ → Std.Result ℕ Answers.Refusal → Type 0
+Parses n count ws ws' pool (Ok v) = (file : File) × (read_lines no_lines (lines (decode count ws pool)) ≡ ok file) × FileHeld n count v ws' pool file
+Parses n count ws ws' pool (Err a) = (r : Refusal) × (read_lines no_lines (lines (decode count ws pool)) ≡ refused r) × Refuses a r

@@ -15,9 +15,9 @@ use Rattle.rules.specs.Variables.{Piece, text, ref, limit}
 use Rattle.rules.proofs.Lengths.{Sum, bounded_sum, add, add-missing, add-more}
 use Rattle.tokens.specs.Entries.{token_at}
 use Rattle.workspace.specs.Map.{dropped_kind, piece_of, pieces_of, pieces_between}
-use Rattle.passes.specs.Sums.{top, size_of, advance, Extends, Reaches}
-use Rattle.passes.specs.declared.sums.Advance.{Advance}
-use Rattle.passes.specs.declared.sums.Advance.TheVariants as Adv
+use Rattle.passes.specs.Sums.{top, size_of, Advance, advance, Extends, Reaches}
+use Rattle.std.specs.Prelude.{Ok, Err}
+use Rattle.passes.specs.declared.sums.Stop.TheVariants.{Over, Missing}
 
 pub extends_refl : (lens : List ℕ) → Extends lens lens
 extends_refl lens j k e = e
@@ -99,26 +99,26 @@ module _ (ts : List Token) (ranks : List ℕ) where
   module _ (lens : List ℕ) (to : ℕ) where
     -- what going on at token k with the sum s comes to
     abbrev pub Advances : ℕ → ℕ → Advance → Type 0
-    Advances k s Adv.Over = add lens s (pieces_between ts ranks k to) ≡ Sum.over
-    Advances k s (Adv.Missing j t) =
+    Advances k s (Err Over) = add lens s (pieces_between ts ranks k to) ≡ Sum.over
+    Advances k s (Err (Missing j t)) =
         (j < length ts) × (t ≤ top) × Reaches lens s (pieces_between ts ranks k to) t (pieces_between ts ranks j to)
         × (add lens s (pieces_between ts ranks k to) ≡ Sum.missing (token_at ts j)) × (j < to) × (size_of lens (get_or ranks j 0) (token_at ts j) ≡ 0)
-    Advances k s (Adv.Sum t) = (t ≤ top) × (add lens s (pieces_between ts ranks k to) ≡ Sum.sum t)
+    Advances k s (Ok t) = (t ≤ top) × (add lens s (pieces_between ts ranks k to) ≡ Sum.sum t)
 
     abbrev size : ℕ → ℕ
     size k = size_of lens (get_or ranks k 0) (token_at ts k)
 
     -- going on later
     before : (k s j t : ℕ) (r : Advance) → Reaches lens s (pieces_between ts ranks k to) t (pieces_between ts ranks j to) → Advances j t r → Advances k s r
-    before k s j t Adv.Over g a = g lens (extends_refl lens) ∙ a
-    before k s j t (Adv.Missing i u) g a = (a.0, a.1, (λ m x. g m x ∙ a.2 m x), g lens (extends_refl lens) ∙ a.3, a.4, a.5)
-    before k s j t (Adv.Sum u) g a = (a.0, g lens (extends_refl lens) ∙ a.1)
+    before k s j t (Err Over) g a = g lens (extends_refl lens) ∙ a
+    before k s j t (Err (Missing i u)) g a = (a.0, a.1, (λ m x. g m x ∙ a.2 m x), g lens (extends_refl lens) ∙ a.3, a.4, a.5)
+    before k s j t (Ok u) g a = (a.0, g lens (extends_refl lens) ∙ a.1)
 
     pub add-stopped : (k s : ℕ) → k < to → size k ≡ 0 → add lens s (pieces_between ts ranks k to) ≡ Sum.missing (token_at ts k)
     add-stopped k s h e = ap (add lens s) (pieces_more k to h) ∙ add-lacking lens (get_or ranks k 0) (token_at ts k) s (pieces_between ts ranks (suc k) to) e
 
     module _ (k s : ℕ) (h : k < to) (f : s ≤ top) where
-      at-missing : size k ≡ 0 → Advances k s (Adv.Missing k s)
+      at-missing : size k ≡ 0 → Advances k s (Err (Missing k s))
       unfolding size_of pick no_name token is_a
       at-missing e = (
         elim (dec_lt k (length ts)) [ yes l ↦ l | no l ↦ absurd (let y = past-none k (omega arith) in let z : 1 ≡ 0 = rw y.1 at e in omega arith) ],
@@ -135,7 +135,7 @@ module _ (ts : List Token) (ranks : List ℕ) where
             ap (add m s) (pieces_more k to h)
             ∙ add-sized m (get_or ranks k 0) (token_at ts k) s x (pieces_between ts ranks (suc k) to) f (size-extends lens (get_or ranks k 0) (token_at ts k) m x g e)
 
-        at-over : top < s + x → Advances k s Adv.Over
+        at-over : top < s + x → Advances k s (Err Over)
         at-over o = one lens (extends_refl lens) ∙ bounded-over (s + x) (add lens (s + x) (pieces_between ts ranks (suc k) to)) o
 
         at_more : s + x ≤ top → Reaches lens s (pieces_between ts ranks k to) (s + x) (pieces_between ts ranks (suc k) to)

@@ -13,10 +13,10 @@ use Rattle.rules.proofs.Lengths.{Sum, add, add_is, sum_of, entries}
 use Rattle.tokens.specs.Entries.{decode, token_at}
 use Rattle.workspace.specs.Map.{parts_between, pieces_between, ranks_of, lengths_of, Looked}
 use Rattle.workspace.proofs.Links.{between-looked}
-use Rattle.passes.specs.Sums.{top, size_at, advance}
+use Rattle.passes.specs.Sums.{top, size_at, Advance, advance}
 use Rattle.passes.proofs.Advances.{Advances, advances}
-use Rattle.passes.specs.declared.sums.Advance.{Advance}
-use Rattle.passes.specs.declared.sums.Advance.TheVariants as Adv
+use Rattle.std.specs.Prelude.{Ok, Err}
+use Rattle.passes.specs.declared.sums.Stop.TheVariants.{Over, Missing}
 
 -- an expansion by its sum
 module _ (w : WhileResolving) where
@@ -43,9 +43,9 @@ module _ (n count v : ℕ) (ws pool : List ℕ) (vs : List Assignment) (vals : F
     (w : WhileResolving) (from to : ℕ) where
   -- what the answer r of `sum_on` from 0 says about the tokens from `from` up to `to`
   abbrev pub Measured : Advance → Type 0
-  Measured Adv.Over = resolve_parts vs vals w (parts_between (decode count ws pool) from to) ≡ refused (content_too_large w)
-  Measured (Adv.Missing j s) = resolve_parts vs vals w (parts_between (decode count ws pool) from to) ≡ refused (undefined_variable (token_at (decode count ws pool) j) w)
-  Measured (Adv.Sum t) = (u : List ℕ) × (resolve_parts vs vals w (parts_between (decode count ws pool) from to) ≡ ok u) × (length u ≡ t) × (t ≤ top)
+  Measured (Err Over) = resolve_parts vs vals w (parts_between (decode count ws pool) from to) ≡ refused (content_too_large w)
+  Measured (Err (Missing j s)) = resolve_parts vs vals w (parts_between (decode count ws pool) from to) ≡ refused (undefined_variable (token_at (decode count ws pool) j) w)
+  Measured (Ok t) = (u : List ℕ) × (resolve_parts vs vals w (parts_between (decode count ws pool) from to) ≡ ok u) × (length u ≡ t) × (t ≤ top)
 
   is_sum : add (lengths_of n v ws) 0 (pieces_between (decode count ws pool) (ranks_of n ws) from to) ≡ sum_of (expand vals [] (map (look_up vs) (parts_between (decode count ws pool) from to)))
   is_sum =
@@ -54,9 +54,9 @@ module _ (n count v : ℕ) (ws pool : List ℕ) (vs : List Assignment) (vals : F
 
   by : (r : Advance) → Advances (decode count ws pool) (ranks_of n ws) (lengths_of n v ws) to from 0 r → Measured r
   unfolding resolve_parts
-  by Adv.Over a = large-by w (expand vals [] (map (look_up vs) (parts_between (decode count ws pool) from to))) (sym is_sum ∙ a)
-  by (Adv.Missing j s) a = missing-by w (expand vals [] (map (look_up vs) (parts_between (decode count ws pool) from to))) (token_at (decode count ws pool) j) (sym is_sum ∙ a.3)
-  by (Adv.Sum t) a =
+  by (Err Over) a = large-by w (expand vals [] (map (look_up vs) (parts_between (decode count ws pool) from to))) (sym is_sum ∙ a)
+  by (Err (Missing j s)) a = missing-by w (expand vals [] (map (look_up vs) (parts_between (decode count ws pool) from to))) (token_at (decode count ws pool) j) (sym is_sum ∙ a.3)
+  by (Ok t) a =
       let x = value-by w (expand vals [] (map (look_up vs) (parts_between (decode count ws pool) from to))) t (sym is_sum ∙ a.1) in
       (x.0, x.1, x.2, a.0)
 

@@ -1,5 +1,6 @@
 -- A pass that leaves out the blocks in which all variables rest. Assumes nothing.
 use Prim.Native.Nat.{ℕ, zero, suc, ◌+◌, ◌*◌, ◌-◌, ◌≤◌, ◌<◌}
+use Rattle.std.specs.Prelude.{min}
 use mathlib.Core.Path.{◌≡◌, refl, sym, ◌∙◌, ap}
 use mathlib.Core.Bool.{Bool, true, false}
 use mathlib.Core.List.{List, [], ◌∷◌}
@@ -9,21 +10,19 @@ use native.Mathlib.Omega.{arith}
 use lib.Bits.{bit_or}
 use lib.ListN.{length, get_or, drop}
 use lib.Seq.{drop-cons}
+use Rattle.std.specs.Prelude.{Option, None, Some, Ok}
+use Rattle.std.specs.Option.{unwrap_or}
 use Rattle.rules.specs.Tokens.{Token}
 use Rattle.rules.specs.Variables.{Piece}
-use Rattle.rules.proofs.BytesLaws.{false-true}
 use Rattle.rules.proofs.Lengths.{Sum, add, Lens, pass_lens, lens-valued, lens-missing}
-use Rattle.workspace.specs.Map.{lengths_of, rules_in}
-use Rattle.passes.specs.Visits.{State, zeros, pass_from}
+use Rattle.passes.specs.Visits.{Reads, rules_of, State, zeros, pass_from}
 use Rattle.scan.specs.Bits.{bit_at}
 use Rattle.passes.specs.Blocks.{Block, Rests, Leaves, Turns}
-use Rattle.passes.specs.Passes.{Covers, Turning, Passes}
-use Rattle.passes.proofs.States.{few, same-rules, state-then}
+use Rattle.passes.specs.Passes.{Covers, Wide, Passes}
 use Rattle.passes.proofs.Turns.{rules-count, rules-past}
 use Rattle.scan.proofs.Bits.{or_off, no-bit}
-use Rattle.passes.proofs.Waits.{rests-missing, rests-here, rests-there}
-use Rattle.passes.specs.declared.blocks.Turned.TheVariants as Tur
-use Rattle.passes.specs.declared.Passed.TheVariants as Pas
+use Rattle.passes.proofs.Waits.{rests-missing}
+use Rattle.passes.specs.declared.blocks.Blocks.{Blocks}
 
 -- blocks
 pub block-bit : (b w v lo : ℕ) → lo ≡ b * w → v ≤ 32 * w → lo < v → b < 32
@@ -75,174 +74,164 @@ skip rules lens f (suc k) i h r =
     skip-one rules lens f i (omega arith) (r i (omega arith) (omega arith)) ∙ skip rules lens f k (suc i) (omega arith) (λ t p q. r t (omega arith) (omega arith))
     ∙ ap (λ (x : ℕ). pass_lens x (drop x rules) f lens) e
 
--- At the variable of rank i, in block b, which begins at lo: what is left of the pass comes to the whole of it; what is not due rests, and so does
--- what is passed and not in `next`
-pub record Passing (n count v w given : ℕ) (pool ws₀ ws : List ℕ) (due next : ℕ) (found : Bool) (i lo b : ℕ) : Type 0 where
-  pub asked : Turning n count v w given pool ws₀
-  pub state : State n count v pool ws₀ ws
-  pub is_lo : lo ≡ b * w
-  pub from : lo ≤ i
-  pub upto : i ≤ lo + w
-  pub lo_in : lo ≤ v
-  pub rest : pass_from n count v ws₀ pool i found (lengths_of n v ws) ≡ pass_from n count v ws₀ pool 0 false (lengths_of n v ws₀)
-  pub covers : Covers n count v w due pool ws₀ ws
-  pub past : (t c : ℕ) → t < v → t < i → Block w t c → bit_at next c ≡ false → Rests n count v pool ws₀ ws t c
-  pub quiet : found ≡ false → next ≡ 0
-  pub fewer : found ≡ true → zeros (lengths_of n v ws) < zeros (lengths_of n v ws₀)
-  pub no_more : zeros (lengths_of n v ws) ≤ zeros (lengths_of n v ws₀)
+-- what was found: whether anything, and the blocks that wait for it
+abbrev pub any_found : Option Blocks → Bool
+any_found None = false
+any_found (Some m) = true
 
-pub pass-start : (n count v w given : ℕ) (pool ws : List ℕ) → Turning n count v w given pool ws → Passing n count v w given pool ws ws given 0 false 0 0 0
-pass-start n count v w given pool ws T =
-    record {
-      asked = T;
-      state = T.state;
-      is_lo = omega arith;
-      from = omega arith;
-      upto = omega arith;
-      lo_in = omega arith;
-      rest = refl;
-      covers = T.covers;
-      past = λ t c h l. absurd (omega arith);
-      quiet = λ e. refl;
-      fewer = λ e. absurd (false-true refl e);
-      no_more = omega arith;
-    }
+abbrev pub woken : Option Blocks → ℕ
+woken None = 0
+woken (Some m) = m.0
 
-module _ {n count v w given : ℕ} {pool ws₀ ws : List ℕ} {due next : ℕ} {found : Bool} {i lo b : ℕ} (P : Passing n count v w given pool ws₀ ws due next found i lo b) where
-  pub pass-small : lo + w ≤ 131070
-  pass-small = omega (arith, P.lo_in, few P.state.room, P.state.room.small, P.asked.blocks.narrow)
+-- At the variable of rank i: what is left of the pass comes to the whole of it; what is not due rests, and so does what is passed and not in a block that
+-- waits for what was found
+pub record Passing (R : Reads) (w : ℕ) (lens₀ lens stops sums waiters : List ℕ) (due : ℕ) (found : Option Blocks) (i : ℕ) : Type 0 where
+  pub blocks : Wide (length R.keys) w
+  pub state : State R lens stops sums
+  pub waiters_long : length waiters ≡ length R.keys
+  pub rest : pass_from R i (any_found found) lens ≡ pass_from R 0 false lens₀
+  pub covers : Covers R w due lens stops waiters
+  pub past : (t c : ℕ) → t < length R.keys → t < i → Block w t c → bit_at (woken found) c ≡ false → Rests R lens stops waiters t c
+  pub fewer : any_found found ≡ true → zeros lens < zeros lens₀
+  pub no_more : zeros lens ≤ zeros lens₀
 
-  module _ (h : i < v) where
-    pub pass-bit : b < 32
-    pass-bit = block-bit b w v lo P.is_lo P.asked.blocks.wide (omega (arith, P.from))
+-- what is added to nothing yet
+pub woken-or : (o : Option Blocks) (x : Blocks) → x ≡ unwrap_or o (record { 0 = 0 }) → x.0 ≡ woken o
+woken-or None x e = ap (λ (y : Blocks). y.0) e
+woken-or (Some m) x e = ap (λ (y : Blocks). y.0) e
 
-    -- the next block
-    pub pass-block : lo + w ≤ i → Passing n count v w given pool ws₀ ws due next found i (lo + w) (b + 1)
-    pass-block q =
-        record {
-          asked = P.asked;
-          state = P.state;
-          is_lo = next-lo b w lo P.is_lo;
-          from = q;
-          upto = omega (arith, P.upto);
-          lo_in = omega arith;
-          rest = P.rest;
-          covers = P.covers;
-          past = P.past;
-          quiet = P.quiet;
-          fewer = P.fewer;
-          no_more = P.no_more;
-        }
+module _ {R : Reads} {w : ℕ} {lens₀ lens stops sums waiters : List ℕ} {due : ℕ} {found : Option Blocks} {i : ℕ} (P : Passing R w lens₀ lens stops sums waiters due found i) where
+  -- past the last variable
+  pub pass-beyond : length R.keys ≤ i → (j : ℕ) → length R.keys ≤ j → Passing R w lens₀ lens stops sums waiters due found j
+  unfolding pass_lens
+  pass-beyond h j q =
+      record {
+        blocks = P.blocks;
+        state = P.state;
+        waiters_long = P.waiters_long;
+        rest =
+            let x : pass_from R j (any_found found) lens ≡ Lens.passed (any_found found) lens = rw (rules-past R j (omega arith)) refl in
+            let y : pass_from R i (any_found found) lens ≡ Lens.passed (any_found found) lens = rw (rules-past R i h) refl in
+            x ∙ sym y ∙ P.rest;
+        covers = P.covers;
+        past = λ t c r l. P.past t c r (omega arith);
+        fewer = P.fewer;
+        no_more = P.no_more;
+      }
 
-    in_block : (t : ℕ) → i ≤ t → t < lo + w → Block w t b
-    in_block t p q = rw (← P.is_lo) (omega (arith, P.from), q)
-
-    -- a block that is not due is left out
-    pub pass-skip : i < lo + w → (c : Bool) → c ≡ bit_at due b → c ≡ false → Passing n count v w given pool ws₀ ws due next found (lo + w) lo b
-    unfolding pass_lens
-    pass-skip u c e f =
-        let R = rules_in n count v ws₀ pool in
-        let l = rules-count P.state.room pool in
-        let rests : (t : ℕ) → i ≤ t → t < lo + w → t < v → Rests n count v pool ws₀ ws t b = λ t p q r. P.covers.at t b r (in_block t p q) (sym e ∙ f) in
-        let still : (t : ℕ) → i ≤ t → t < lo + w → t < v → Still R (lengths_of n v ws) t = λ t p q r. rests-missing P.state t b r (rests t p q r) in
-        record {
-          asked = P.asked;
-          state = P.state;
-          is_lo = P.is_lo;
-          from = omega arith;
-          upto = omega arith;
-          lo_in = P.lo_in;
-          rest = elim (dec_lt v (lo + w)) [
-            | yes big ↦
-                let k : i + (v - i) ≡ v = omega arith in
-                let x = skip R (lengths_of n v ws) found (v - i) i (omega arith) (λ t p q. still t p (omega arith) (omega arith)) in
-                let y : pass_lens (lo + w) (drop (lo + w) R) found (lengths_of n v ws) ≡ Lens.passed found (lengths_of n v ws) = rw (rules-past P.state.room pool (lo + w) (omega arith)) refl in
-                let z : pass_lens v (drop v R) found (lengths_of n v ws) ≡ Lens.passed found (lengths_of n v ws) = rw (rules-past P.state.room pool v (omega arith)) refl in
-                y ∙ sym z ∙ ap (λ (m : ℕ). pass_lens m (drop m R) found (lengths_of n v ws)) (sym k) ∙ sym x ∙ P.rest
-            | no small ↦
-                let k : i + (lo + w - i) ≡ lo + w = omega arith in
-                let x = skip R (lengths_of n v ws) found (lo + w - i) i (omega arith) (λ t p q. still t p (omega arith) (omega arith)) in
-                ap (λ (m : ℕ). pass_lens m (drop m R) found (lengths_of n v ws)) (sym k) ∙ sym x ∙ P.rest
-          ];
-          covers = P.covers;
-          past = λ t d r q m o. elim (dec_lt t i) [
-            | yes k ↦ P.past t d r k m o
-            | no k ↦ let y : d ≡ b = block_one w t b d (in_block t (omega arith) q) m in rw y (rests t (omega arith) q r)
-          ];
-          quiet = P.quiet;
-          fewer = P.fewer;
-          no_more = P.no_more;
-        }
-
-    module _ (u : i < lo + w) (ws' : List ℕ) where
-      pub pass-over : State n count v pool ws ws' × Turns n count v pool ws ws' i b Tur.Over → State n count v pool ws₀ ws' × Passes n count v w pool ws₀ ws' (Pas.Stopped i)
-      pass-over a = (state-then P.state a.0, sym P.rest ∙ (rw (same-rules P.state) at (a.1 found)))
-
-      -- who rests after the turn, where the blocks of m wake
-      module _ (m : ℕ) (L : Leaves n count v pool ws ws' i b m) where
-        own : (c : ℕ) → Block w i c → Rests n count v pool ws₀ ws' i c
-        own c k = let y : c ≡ b = block_one w i b c (in_block i (omega arith) u) k in rw y (rests-there P.state i b h ws' L.own)
-
-        other : (t c : ℕ) → t < v → (t ≡ i → ⊥) → bit_at m c ≡ false → Rests n count v pool ws₀ ws t c → Rests n count v pool ws₀ ws' t c
-        other t c r d o x = rests-there P.state t c r ws' (L.others t c d o (rests-here P.state t c r ws x))
-
-        any : (t c : ℕ) → t < v → Block w t c → bit_at m c ≡ false → ((t ≡ i → ⊥) → Rests n count v pool ws₀ ws t c) → Rests n count v pool ws₀ ws' t c
-        any t c r k o x = elim (dec_lt t i) [
-          | yes q ↦ other t c r (λ z. omega arith) o (x (λ z. omega arith))
-          | no q ↦ elim (dec_lt i t) [
-            | yes q' ↦ other t c r (λ z. omega arith) o (x (λ z. omega arith))
-            | no q' ↦ let y : t ≡ i = omega arith in rw y (own c (rw y at k))
+  -- a block that is not due is left out
+  pub pass-skip : (b : ℕ) → i ≡ b * w → (c : Bool) → c ≡ bit_at due b → c ≡ false → (j : ℕ) → j ≡ (b + 1) * w → Passing R w lens₀ lens stops sums waiters due found j
+  unfolding pass_lens
+  pass-skip b e c ec f j ej =
+      let l = rules-count R in
+      let n : j ≡ i + w = ej ∙ sym (next-lo b w i e) in
+      let in_block : (t : ℕ) → i ≤ t → t < j → Block w t b = λ t p q. (omega (arith, e), omega (arith, e, n)) in
+      let rests : (t : ℕ) → i ≤ t → t < j → t < length R.keys → Rests R lens stops waiters t b = λ t p q r. P.covers.at t b r (in_block t p q) (sym ec ∙ f) in
+      let still : (t : ℕ) → i ≤ t → t < j → t < length R.keys → Still (rules_of R) lens t = λ t p q r. rests-missing P.state waiters t b r (rests t p q r) in
+      record {
+        blocks = P.blocks;
+        state = P.state;
+        waiters_long = P.waiters_long;
+        rest = elim (dec_lt (length R.keys) j) [
+          | yes big ↦ elim (dec_lt i (length R.keys)) [
+            | yes low ↦
+                let k : i + (length R.keys - i) ≡ length R.keys = omega arith in
+                let x = skip (rules_of R) lens (any_found found) (length R.keys - i) i (omega arith) (λ t p q. still t p (omega arith) (omega arith)) in
+                let y : pass_from R j (any_found found) lens ≡ Lens.passed (any_found found) lens = rw (rules-past R j (omega arith)) refl in
+                let z : pass_from R (length R.keys) (any_found found) lens ≡ Lens.passed (any_found found) lens = rw (rules-past R (length R.keys) (omega arith)) refl in
+                y ∙ sym z ∙ ap (λ (m : ℕ). pass_from R m (any_found found) lens) (sym k) ∙ sym x ∙ P.rest
+            | no low ↦ (pass-beyond (omega arith) j (omega arith)).rest
           ]
+          | no small ↦
+              let k : i + (j - i) ≡ j = omega arith in
+              let x = skip (rules_of R) lens (any_found found) (j - i) i (omega arith) (λ t p q. still t p (omega arith) (omega arith)) in
+              ap (λ (m : ℕ). pass_from R m (any_found found) lens) (sym k) ∙ sym x ∙ P.rest
+        ];
+        covers = P.covers;
+        past = λ t d r q m o. elim (dec_lt t i) [
+          | yes k ↦ P.past t d r k m o
+          | no k ↦ let y : d ≡ b = block_one w t b d (in_block t (omega arith) q) m in rw y (rests t (omega arith) q r)
+        ];
+        fewer = P.fewer;
+        no_more = P.no_more;
+      }
+
+  -- a turn in block b
+  module _ (h : i < length R.keys) (b : ℕ) (lo : b * w ≤ i) (hi : i < b * w + w) where
+    -- who rests after the turn, where the blocks of m wake
+    module _ {lens' stops' waiters' : List ℕ} (m : ℕ) (L : Leaves R lens stops waiters lens' stops' waiters' i b m) where
+      own : (c : ℕ) → Block w i c → Rests R lens' stops' waiters' i c
+      own c k = let y : c ≡ b = block_one w i b c (lo, hi) k in rw y L.own
+
+      any : (t c : ℕ) → Block w t c → bit_at m c ≡ false → ((t ≡ i → ⊥) → Rests R lens stops waiters t c) → Rests R lens' stops' waiters' t c
+      any t c k o x = elim (dec_lt t i) [
+        | yes q ↦ L.others t c (λ z. omega arith) o (x (λ z. omega arith))
+        | no q ↦ elim (dec_lt i t) [
+          | yes q' ↦ L.others t c (λ z. omega arith) o (x (λ z. omega arith))
+          | no q' ↦ let y : t ≡ i = omega arith in rw y (own c (rw y at k))
         ]
+      ]
 
-      pub pass-nothing : State n count v pool ws ws' × Turns n count v pool ws ws' i b Tur.Nothing → Passing n count v w given pool ws₀ ws' due next found (i + 1) lo b
-      pass-nothing a =
-          record {
-            asked = P.asked;
-            state = state-then P.state a.0;
-            is_lo = P.is_lo;
-            from = omega (arith, P.from);
-            upto = omega arith;
-            lo_in = P.lo_in;
-            rest = rw a.1.0 (sym (rw (same-rules P.state) at (a.1.2 found)) ∙ P.rest);
-            covers = record { at = λ t c r k o. any 0 a.1.1 t c r k (no-bit c) (λ d. P.covers.at t c r k o) };
-            past = λ t c r q k o. any 0 a.1.1 t c r k (no-bit c) (λ d. P.past t c r (omega arith) k o);
-            quiet = P.quiet;
-            fewer = λ e. rw a.1.0 (P.fewer e);
-            no_more = rw a.1.0 P.no_more;
-          }
+    pub pass-nothing : {lens' stops' sums' waiters' : List ℕ} → length waiters' ≡ length waiters → State R lens' stops' sums' × Turns R lens stops waiters lens' stops' waiters' i b (Ok None)
+        → Passing R w lens₀ lens' stops' sums' waiters' due found (i + 1)
+    pass-nothing l a =
+        record {
+          blocks = P.blocks;
+          state = a.0;
+          waiters_long = l ∙ P.waiters_long;
+          rest = rw a.1.0 (sym (a.1.2 (any_found found)) ∙ P.rest);
+          covers = record { at = λ t c r k o. any 0 a.1.1 t c k (no-bit c) (λ d. P.covers.at t c r k o) };
+          past = λ t c r q k o. any 0 a.1.1 t c k (no-bit c) (λ d. P.past t c r (omega arith) k o);
+          fewer = λ e. rw a.1.0 (P.fewer e);
+          no_more = rw a.1.0 P.no_more;
+        }
 
-      pub pass-wakes : (m : ℕ) → State n count v pool ws ws' × Turns n count v pool ws ws' i b (Tur.Wakes m)
-          → Passing n count v w given pool ws₀ ws' (bit_or due m) (bit_or next m) true (i + 1) lo b
-      pass-wakes m a =
-          record {
-            asked = P.asked;
-            state = state-then P.state a.0;
-            is_lo = P.is_lo;
-            from = omega (arith, P.from);
-            upto = omega arith;
-            lo_in = P.lo_in;
-            rest = sym (rw (same-rules P.state) at (a.1.2 found)) ∙ P.rest;
-            covers = record { at = λ t c r k o. let x = or_off due m c o in any m a.1.1 t c r k x.1 (λ d. P.covers.at t c r k x.0) };
-            past = λ t c r q k o. let x = or_off next m c o in any m a.1.1 t c r k x.1 (λ d. P.past t c r (omega arith) k x.0);
-            quiet = λ z. absurd (false-true z refl);
-            fewer = λ z. omega (arith, a.1.0, P.no_more);
-            no_more = omega (arith, a.1.0, P.no_more);
-          }
+    pub pass-wakes : {lens' stops' sums' waiters' : List ℕ} → length waiters' ≡ length waiters → (m : Blocks) → State R lens' stops' sums' × Turns R lens stops waiters lens' stops' waiters' i b (Ok (Some m))
+        → (due' : ℕ) → due' ≡ bit_or due m.0 → (all : Blocks) → all.0 ≡ bit_or (woken found) m.0 → Passing R w lens₀ lens' stops' sums' waiters' due' (Some all) (i + 1)
+    pass-wakes l m a due' ed all ea =
+        record {
+          blocks = P.blocks;
+          state = a.0;
+          waiters_long = l ∙ P.waiters_long;
+          rest = sym (a.1.2 (any_found found)) ∙ P.rest;
+          covers = rw ed record { at = λ t c r k o. let x = or_off due m.0 c o in any m.0 a.1.1 t c k x.1 (λ d. P.covers.at t c r k x.0) };
+          past = rw ea (λ t c r q k o. let x = or_off (woken found) m.0 c o in any m.0 a.1.1 t c k x.1 (λ d. P.past t c r (omega arith) k x.0));
+          fewer = λ z. omega (arith, a.1.0, P.no_more);
+          no_more = omega (arith, a.1.0, P.no_more);
+        }
 
-  module _ (h : v ≤ i) where
-    ended : Lens.passed found (lengths_of n v ws) ≡ pass_from n count v ws₀ pool 0 false (lengths_of n v ws₀)
-    unfolding pass_lens
-    ended = rw (rules-past P.state.room pool i h) at P.rest
+  -- the next block
+  pub pass-next : (b from end : ℕ) → from ≡ b * w → end ≡ min (from + w) (length R.keys) → from ≤ i → (from ≤ end → i ≤ end) → end ≤ i
+      → Passing R w lens₀ lens stops sums waiters due found ((b + 1) * w)
+  pass-next b from end e f p q r =
+      let n = next-lo b w from e in
+      elim (dec_lt i (length R.keys)) [
+        | yes l ↦
+            let z = q (omega arith) in
+            let y : i ≡ (b + 1) * w = omega arith in
+            rw (← y) P
+        | no l ↦ elim (dec_lt end from) [
+          | yes m ↦ pass-beyond (omega arith) ((b + 1) * w) (omega arith)
+          | no m ↦ let z = q (omega arith) in pass-beyond (omega arith) ((b + 1) * w) (omega arith)
+        ]
+      ]
 
-    pub pass-found : found ≡ true → State n count v pool ws₀ ws × Passes n count v w pool ws₀ ws (Pas.Found next)
-    pass-found e = (P.state, (P.fewer e, sym (rw e at ended), record { at = λ t c r m o. P.past t c r (omega arith) m o }))
+module _ {R : Reads} {w : ℕ} {lens₀ lens stops sums waiters : List ℕ} {due : ℕ} {found : Option Blocks} {i : ℕ} (P : Passing R w lens₀ lens stops sums waiters due found i) (h : length R.keys ≤ i) where
+  ended : Lens.passed (any_found found) lens ≡ pass_from R 0 false lens₀
+  unfolding pass_lens
+  ended = rw (rules-past R i h) at P.rest
 
-    pub pass-idle : found ≡ false → State n count v pool ws₀ ws × Passes n count v w pool ws₀ ws Pas.Idle
-    pass-idle e = (
+-- past the last block
+pub pass-ends : {R : Reads} {w : ℕ} {lens₀ lens stops sums waiters : List ℕ} {due : ℕ} (found : Option Blocks) (b : ℕ) → Passing R w lens₀ lens stops sums waiters due found (b * w) → 32 ≤ b
+    → State R lens stops sums × Passes R w lens₀ lens stops waiters (Ok found)
+pass-ends {w = w} (Some m) b P n =
+    let h : 32 * w ≤ b * w = mul-le-mul_right w n in
+    (P.state, (P.fewer refl, sym (ended P (omega (arith, P.blocks.wide))), record { at = λ t c r k o. P.past t c r (omega (arith, P.blocks.wide)) k o }))
+pass-ends {w = w} None b P n =
+    let h : 32 * w ≤ b * w = mul-le-mul_right w n in (
       P.state,
       (
-        (λ t r z. let c = block_of w P.asked.blocks.some t in rests-missing P.state t c.0 r (P.past t c.0 r (omega arith) c.1 (rw (P.quiet e) (no-bit c.0))) z),
-        sym (rw e at ended),
+        (λ t r z. let c = block_of w P.blocks.some t in rests-missing P.state _ t c.0 r (P.past t c.0 r (omega (arith, P.blocks.wide)) c.1 (no-bit c.0)) z),
+        sym (ended P (omega (arith, P.blocks.wide))),
       ),
     )

@@ -1,240 +1,198 @@
 -- All passes, from the cleared columns to the answer. Assumes nothing.
-use Prim.Native.Nat.{ℕ, suc, ◌+◌, ◌*◌, ◌-◌, ◌/◌, ◌≤◌, ◌<◌}
+use Prim.Native.Nat.{ℕ, suc, ◌+◌, ◌*◌, ◌-◌, ◌/◌, ◌≤◌}
 use mathlib.Core.Path.{◌≡◌, refl, sym, ◌∙◌, ap, ap₂}
-use mathlib.Core.Bool.{true, false}
-use mathlib.Core.List.{List, ◌++◌}
+use mathlib.Core.List.{List, ◌++◌, append_assoc, append-nil}
 use native.Mathlib.Nat.{zero-add, sub-zero}
 use native.Mathlib.Omega.{arith}
-use lib.ListN.{length, get_or, take, drop, replicate, length-append, length-drop, length-replicate, get_or-replicate, take-append-drop}
-use lib.Seq.{get_or-take, get_or-drop, ext_get_or, take-add, length-take-le}
+use lib.ListN.{length, take, drop, replicate, length-drop, length-replicate, get_or-replicate, drop_of_length-le}
+use lib.Seq.{take-take, drop-drop, drop_at, take_at, length-take-le}
+use Rattle.std.proofs.lemmas.List.{take-append-le, take-replicate, drop-replicate}
+use Rattle.std.specs.Prelude.{None, Some, Ok, Err}
 use Rattle.rules.specs.Tokens.{Token}
-use Rattle.rules.proofs.Lengths.{Lens, pass_lens, Settles, left_lens, passes_lens, resolve_lens}
-use Rattle.scan.specs.Stores.{puts}
-use Rattle.scan.proofs.Stores.{length-puts, take-puts, drop-puts, puts-puts, puts-eq, get_or-stored, column-before}
-use Rattle.tokens.specs.Entries.{token_at}
-use Rattle.workspace.specs.Map.{lengths_of, rules_in, Room}
-use Rattle.workspace.proofs.Frames.{decode-low, rules-low}
-use Rattle.passes.specs.Visits.{State, zeros, Stuck, meaning}
-use Rattle.passes.specs.Passes.{Turning, Passes, count_lens, pass_count, Ready, Runs, kept_of, columns, Resolves}
-use Rattle.passes.proofs.States.{few, column-length, rule-rest, same-rules, state-here, state-then}
-use Rattle.passes.proofs.Turns.{zeros-replicate, rules-count}
-use Rattle.scan.proofs.Bits.{all-bits}
-use Rattle.passes.proofs.Waits.{rests-here}
-use Rattle.passes.proofs.PassLaws.{block-bit}
+use Rattle.rules.specs.Variables.{Piece}
 use Rattle.rules.proofs.BytesLaws.{false-true}
-use Rattle.passes.specs.declared.Passed.TheVariants as Pas
-use Rattle.passes.specs.declared.visits.Settled.{Settled}
-use Rattle.passes.specs.declared.visits.Settled.TheVariants as Set
+use Rattle.rules.proofs.Lengths.{Settles, left_lens, passes_lens, resolve_lens}
+use Rattle.scan.specs.Stores.{puts}
+use Rattle.scan.proofs.Bits.{all-bits}
+use Rattle.scan.proofs.Stores.{puts-eq, take-puts}
+use Rattle.tokens.specs.Entries.{decode}
+use Rattle.tokens.proofs.TokenLaws.{length-decode}
+use Rattle.workspace.specs.Map.{keys_of, starts_of, ends_of, ranks_of, lengths_of, rules_in, Room}
+use Rattle.workspace.proofs.Frames.{decode-low, rules-low}
+use Rattle.passes.specs.Visits.{Reads, rules_of, State, zeros, Settled, said}
+use Rattle.passes.specs.Passes.{Turning, Passes, count_lens, pass_count, kept_of, Ready, Runs, Clear, Mapped, columns, Resolved, Resolves}
+use Rattle.passes.proofs.States.{rule-rest}
+use Rattle.passes.proofs.Turns.{zeros-replicate, rules-count}
+use Rattle.passes.proofs.PassLaws.{block-bit}
+use Rattle.passes.specs.declared.blocks.Blocks.{Blocks}
+use Rattle.passes.specs.declared.visits.TooLarge.{TooLarge}
+use Rattle.passes.specs.declared.visits.Unresolved.TheVariants as Variable
 
--- the columns cleared
-module _ {n count v : ℕ} {ws₀ : List ℕ} (R : Room n count v ws₀) (pool ws : List ℕ) (e : ws ≡ puts ws₀ (8 * n) (replicate (4 * v) 0)) where
-  zero-at : (k : ℕ) → k < 4 * v → get_or ws (8 * n + k) 0 ≡ 0
-  zero-at k h =
-      let l = length-replicate {A = ℕ} (4 * v) 0 in
-      ap (λ (x : List ℕ). get_or x (8 * n + k) 0) e ∙ get_or-stored ws₀ (8 * n) (replicate (4 * v) 0) (omega (arith, l, R.room)) k 0 (omega (arith, l)) ∙ get_or-replicate (4 * v) k 0 0 h
+-- zeros, split
+split-zeros : (cells front back : List ℕ) (m v : ℕ) → cells ≡ replicate m 0 → v ≤ m → front ≡ take v cells → back ≡ drop v cells → (front ≡ replicate v 0) × (back ≡ replicate (m - v) 0)
+split-zeros cells front back m v e h f b = (f ∙ ap (take v) e ∙ take-replicate v m 0 h, b ∙ ap (drop v) e ∙ drop-replicate v m 0)
 
-  zero_in : (b i : ℕ) → 8 * n ≤ b → b + v ≤ 8 * n + 4 * v → i < v → get_or (take v (drop b ws)) i 0 ≡ 0
-  zero_in b i p q h =
-      let x : b + i ≡ 8 * n + (b + i - 8 * n) = omega arith in
-      get_or-take v (drop b ws) i 0 h ∙ get_or-drop b ws i 0 ∙ ap (λ (y : ℕ). get_or ws y 0) x ∙ zero-at (b + i - 8 * n) (omega arith)
-
-  long-cleared : length ws ≡ length ws₀
-  long-cleared = ap length e ∙ length-puts ws₀ (8 * n) (replicate (4 * v) 0)
-
-  low-cleared : take (8 * n) ws ≡ take (8 * n) ws₀
-  low-cleared = rw e (take-puts (8 * n) ws₀ (8 * n) (replicate (4 * v) 0) (omega arith))
-
-  high-cleared : drop (8 * n + 4 * v) ws ≡ drop (8 * n + 4 * v) ws₀
-  high-cleared = rw e (drop-puts (8 * n + 4 * v) ws₀ (8 * n) (replicate (4 * v) 0) (omega (arith, length-replicate {A = ℕ} (4 * v) 0)))
-
-  room-cleared : Room n count v ws
-  room-cleared = record { small = R.small; room = omega (arith, long-cleared, R.room); tokens = R.tokens; few = R.few }
-
-  pub cleared-ready : (w : ℕ) → w ≡ v / 32 + 1 → Ready n count v w pool ws
-  cleared-ready w q =
-      let f = few R in
+-- four clear columns
+module _ {R : Reads} {v : ℕ} {cells : List ℕ} (C : Clear R v cells) (lens rest stops rest' sums waiters : List ℕ) (a : lens ≡ take v cells) (b : rest ≡ drop v cells)
+    (d : stops ≡ take v rest) (e : rest' ≡ drop v rest) (f : sums ≡ take v rest') (g : waiters ≡ drop v rest') where
+  pub clear-ready : (w : ℕ) → w ≡ v / 32 + 1 → Ready R w lens stops sums waiters
+  clear-ready w q =
+      let x = split-zeros cells lens rest (4 * v) v C.clear (omega arith) a b in
+      let y = split-zeros rest stops rest' (4 * v - v) v x.1 (omega arith) d e in
+      let z = split-zeros rest' sums waiters (4 * v - v - v) v y.1 (omega arith) f g in
+      let n : (l : List ℕ) → l ≡ replicate v 0 → length l ≡ length R.keys = λ l k. ap length k ∙ length-replicate v 0 ∙ sym C.keys in
       record {
         state = record {
-          room = room-cleared;
-          long = refl;
-          low = refl;
-          high = refl;
+          tokens = C.tokens;
+          few = omega (arith, C.keys, C.few);
+          lens_long = n lens x.0;
+          stops_long = n stops y.0;
+          sums_long = n sums z.0;
           resumes = λ i h.
-              rw (zero_in (8 * n + v) i (omega arith) (omega arith) h, zero_in (8 * n + 2 * v) i (omega arith) (omega arith) h, rule-rest room-cleared pool i h)
+              rw (y.0, z.0, get_or-replicate {A = ℕ} v i 0 0 (omega (arith, C.keys)), rule-rest R i h)
               record { same = λ m x. refl; fits = omega arith };
         };
-        none = ext_get_or 0 (lengths_of n v ws) (replicate v 0) (column-length room-cleared (8 * n) (omega arith) ∙ sym (length-replicate v 0))
-            (λ i h.
-            let l = column-length room-cleared (8 * n) (omega arith) in
-            zero_in (8 * n) i (omega arith) (omega arith) (omega arith) ∙ sym (get_or-replicate v i 0 0 (omega arith)));
-        blocks = record { some = omega arith; wide = omega arith; narrow = omega (arith, few R, R.small) };
+        waiters_long = omega (arith, ap length z.1, length-replicate {A = ℕ} (4 * v - v - v - v) 0, C.keys);
+        none = rw (x.0, C.keys);
+        blocks = rw C.keys record { some = omega arith; wide = omega arith; narrow = omega (arith, C.few) };
       }
 
 -- after `passes` passes: what is left comes to the whole
-pub record Resolving (n count v : ℕ) (pool ws₀ ws : List ℕ) (passes : ℕ) : Type 0 where
-  pub state : State n count v pool ws₀ ws
-  pub bound : passes + zeros (lengths_of n v ws) ≤ v
-  pub rest : passes_lens (suc (v - passes)) (rules_in n count v ws₀ pool) (lengths_of n v ws) ≡ resolve_lens (rules_in n count v ws₀ pool)
-  pub so_far : passes + count_lens (suc (v - passes)) (rules_in n count v ws₀ pool) (lengths_of n v ws) ≡ pass_count (rules_in n count v ws₀ pool)
+pub record Resolving (R : Reads) (lens : List ℕ) (passes : ℕ) : Type 0 where
+  pub bound : passes + zeros lens ≤ length R.keys
+  pub rest : passes_lens (suc (length R.keys - passes)) (rules_of R) lens ≡ resolve_lens (rules_of R)
+  pub so_far : passes + count_lens (suc (length R.keys - passes)) (rules_of R) lens ≡ pass_count (rules_of R)
 
-run-resolving : (n count v w : ℕ) (pool ws : List ℕ) → Ready n count v w pool ws → Resolving n count v pool ws ws 0
+run-resolving : (R : Reads) (w : ℕ) (lens stops sums waiters : List ℕ) → Ready R w lens stops sums waiters → Resolving R lens 0
 unfolding resolve_lens pass_count
-run-resolving n count v w pool ws F =
-    let l = rules-count F.state.room pool in
+run-resolving R w lens stops sums waiters F =
+    let l = rules-count R in
     record {
-      state = F.state;
-      bound = rw (F.none, zeros-replicate v) (omega arith);
+      bound = rw (F.none, zeros-replicate (length R.keys)) (omega arith);
       rest = rw (F.none, l, sub-zero) refl;
-      so_far = rw (F.none, l, sub-zero) (zero-add (count_lens (suc v) (rules_in n count v ws pool) (replicate v 0)));
+      so_far = rw (F.none, l, sub-zero) (zero-add (count_lens (suc (length R.keys)) (rules_of R) (replicate (length R.keys) 0)));
     }
 
 -- with the blocks that are due
-pub record Running (n count v w : ℕ) (pool ws₀ ws : List ℕ) (passes due : ℕ) : Type 0 where
-  pub resolving : Resolving n count v pool ws₀ ws passes
-  pub turning : Turning n count v w due pool ws
+pub record Running (R : Reads) (w : ℕ) (lens stops sums waiters : List ℕ) (passes due : ℕ) : Type 0 where
+  pub resolving : Resolving R lens passes
+  pub turning : Turning R w due lens stops sums waiters
 
-pub run-start : (n count v w : ℕ) (pool ws : List ℕ) → Ready n count v w pool ws → Running n count v w pool ws ws 0 4294967295
-run-start n count v w pool ws R =
+pub run-start : (R : Reads) (w : ℕ) (lens stops sums waiters : List ℕ) → Ready R w lens stops sums waiters → Running R w lens stops sums waiters 0 4294967295
+run-start R w lens stops sums waiters F =
     record {
-      resolving = run-resolving n count v w pool ws R;
+      resolving = run-resolving R w lens stops sums waiters F;
       turning = record {
-        state = R.state;
-        blocks = R.blocks;
-        covers = record { at = λ t b h m o. absurd (false-true o (all-bits b (block-bit b w v (b * w) refl R.blocks.wide (omega (arith, m.0))))) };
+        state = F.state;
+        waiters_long = F.waiters_long;
+        blocks = F.blocks;
+        covers = record { at = λ t b h m o. absurd (false-true o (all-bits b (block-bit b w (length R.keys) (b * w) refl F.blocks.wide (omega (arith, m.0))))) };
       };
     }
 
-module _ {n count v w : ℕ} {pool ws₀ ws : List ℕ} {passes due : ℕ} (Q : Running n count v w pool ws₀ ws passes due) where
-  G : Resolving n count v pool ws₀ ws passes
+module _ {R : Reads} {w : ℕ} {lens stops sums waiters : List ℕ} {passes due : ℕ} (Q : Running R w lens stops sums waiters passes due) where
+  G : Resolving R lens passes
   G = Q.resolving
 
-  pub run-bound : passes ≤ v
-  run-bound = omega (arith, G.bound)
-
-  module _ (ws' : List ℕ) where
-    pub run-over : (i : ℕ) → State n count v pool ws ws' × Passes n count v w pool ws ws' (Pas.Stopped i) → Runs n count v pool ws₀ ws' (Set.TooLarge i) (passes + 1)
+  module _ (lens' stops' sums' waiters' : List ℕ) where
+    pub run-over : (e : TooLarge) → State R lens' stops' sums' × Passes R w lens lens' stops' waiters' (Err e) → Runs R lens' (Err (Variable.TooLarge e.0)) (passes + 1)
     unfolding passes_lens count_lens
-    run-over i a =
-        let S = state-then G.state a.0 in
-        let q : pass_lens 0 (rules_in n count v ws₀ pool) false (lengths_of n v ws) ≡ Lens.stopped i = rw (same-rules G.state) at a.1 in
-        record { is_answer = rw (q, passes_lens) at G.rest; is_count = rw (q, count_lens) at G.so_far; long = S.long; low = S.low; high = S.high }
+    run-over e a = record { is_answer = rw (a.1, passes_lens) at G.rest; is_count = rw (a.1, count_lens) at G.so_far }
 
-    resolving-more : (m : ℕ) → State n count v pool ws ws' × Passes n count v w pool ws ws' (Pas.Found m) → Resolving n count v pool ws₀ ws' (passes + 1)
+    pub run_more : length waiters' ≡ length waiters → (m : Blocks) → State R lens' stops' sums' × Passes R w lens lens' stops' waiters' (Ok (Some m))
+        → Running R w lens' stops' sums' waiters' (passes + 1) m.0
     unfolding passes_lens count_lens
-    resolving-more m a =
-        let q : pass_lens 0 (rules_in n count v ws₀ pool) false (lengths_of n v ws) ≡ Lens.passed true (lengths_of n v ws') = rw (same-rules G.state) at a.1.1 in
-        let k : v - passes ≡ suc (v - (passes + 1)) = omega (arith, G.bound, a.1.0) in
+    run_more l m a =
+        let k : length R.keys - passes ≡ suc (length R.keys - (passes + 1)) = omega (arith, G.bound, a.1.0) in
         record {
-          state = state-then G.state a.0;
-          bound = omega (arith, G.bound, a.1.0);
-          rest = ap (λ (x : ℕ). passes_lens x (rules_in n count v ws₀ pool) (lengths_of n v ws')) (sym k) ∙ (rw (q, passes_lens) at G.rest);
-          so_far = ap (λ (x : ℕ). passes + 1 + count_lens x (rules_in n count v ws₀ pool) (lengths_of n v ws')) (sym k) ∙ omega (arith, rw (q, count_lens) at G.so_far);
-        }
-
-    pub run_more : (m : ℕ) → State n count v pool ws ws' × Passes n count v w pool ws ws' (Pas.Found m) → Running n count v w pool ws₀ ws' (passes + 1) m
-    run_more m a =
-        record {
-          resolving = resolving-more m a;
-          turning = record {
-            state = state-here a.0;
-            blocks = Q.turning.blocks;
-            covers = record { at = λ t b h k o. rests-here a.0 t b h ws' (a.1.2.at t b h k o) };
+          resolving = record {
+            bound = omega (arith, G.bound, a.1.0);
+            rest = ap (λ (x : ℕ). passes_lens x (rules_of R) lens') (sym k) ∙ (rw (a.1.1, passes_lens) at G.rest);
+            so_far = ap (λ (x : ℕ). passes + 1 + count_lens x (rules_of R) lens') (sym k) ∙ omega (arith, rw (a.1.1, count_lens) at G.so_far);
           };
+          turning = record { state = a.0; waiters_long = l ∙ Q.turning.waiters_long; blocks = Q.turning.blocks; covers = a.1.2 };
         }
 
-    module _ (a : State n count v pool ws ws' × Passes n count v w pool ws ws' Pas.Idle) where
-      pub idle-stuck : Stuck n count v v pool ws' (lengths_of n v ws')
-      idle-stuck = rw (same-rules a.0) a.1.0
-
-      pub run_end : (r : Settled) → meaning n count v ws' pool r ≡ left_lens 0 (rules_in n count v ws' pool) (lengths_of n v ws') → Runs n count v pool ws₀ ws' r (passes + 1)
-      unfolding passes_lens count_lens
-      run_end r e =
-          let S = state-then G.state a.0 in
-          let q : pass_lens 0 (rules_in n count v ws₀ pool) false (lengths_of n v ws) ≡ Lens.passed false (lengths_of n v ws') = rw (same-rules G.state) at a.1.1 in
-          record {
-            is_answer = e ∙ rw (same-rules S) (rw (q, passes_lens) at G.rest);
-            is_count = rw (q, count_lens) at G.so_far;
-            long = S.long;
-            low = S.low;
-            high = S.high;
-          }
-
--- what stands there, stored again
-puts-same : (l : List ℕ) (i k : ℕ) → i + k ≤ length l → puts l i (take k (drop i l)) ≡ l
-puts-same l i k h =
-    let d = length-drop i l in
-    let t : length (take k (drop i l)) ≡ k = length-take-le k (drop i l) (omega arith) in
-    puts-eq l i (take k (drop i l)) (omega arith) ∙ rw (t, ← take-add i k l) (take-append-drop (i + k) l)
-
--- two lists that differ only in what is stored
-puts-window : (a b : List ℕ) (i : ℕ) (vs : List ℕ) → length a ≡ length b → i + length vs ≤ length a → take i a ≡ take i b → drop (i + length vs) a ≡ drop (i + length vs) b → puts a i vs ≡ puts b i vs
-puts-window a b i vs l h t d = puts-eq a i vs h ∙ rw (t, d) (sym (puts-eq b i vs (omega arith)))
+    pub run_end : State R lens' stops' sums' × Passes R w lens lens' stops' waiters' (Ok None) → (r : Settled) → said R.tokens lens' r ≡ left_lens 0 (rules_of R) lens' → Runs R lens' r (passes + 1)
+    unfolding passes_lens count_lens
+    run_end a r e = record { is_answer = e ∙ (rw (a.1.1, passes_lens) at G.rest); is_count = rw (a.1.1, count_lens) at G.so_far }
 
 kept-few : (r : Settled) (v : ℕ) → kept_of r v ≤ v
-kept-few Set.Resolved v = omega arith
-kept-few (Set.TooLarge i) v = omega arith
-kept-few (Set.Lacks i j) v = omega arith
+kept-few (Ok u) v = omega arith
+kept-few (Err e) v = omega arith
 
--- the whole: the columns cleared, the passes, and all cleared but the lengths that stay
-module _ {n count v : ℕ} {ws₀ : List ℕ} (R : Room n count v ws₀) (pool ws : List ℕ) (e : ws ≡ puts ws₀ (8 * n) (replicate (4 * v) 0))
-    {ws₁ : List ℕ} {r : Settled} {passes : ℕ} (A : Runs n count v pool ws ws₁ r passes) (k : ℕ) (ek : k ≡ kept_of r v) where
-  pub small-kept : k ≤ v
-  small-kept = omega (arith, kept-few r v)
+-- the columns at the end, of which k entries stay: the lengths, where all variables have values, else none
+module _ (ts : List Token) (v k : ℕ) (cells : List ℕ) (l : length cells ≡ 4 * v) where
+  abbrev ended : List ℕ
+  ended = take k cells ++ replicate (4 * v - k) 0
 
-  long-all : length ws₁ ≡ length ws₀
-  long-all = A.long ∙ long-cleared R pool ws e
+  ended-columns : (r : Settled) → k ≡ kept_of r v → ended ≡ columns v (said ts (take v cells) r)
+  unfolding columns
+  ended-columns (Ok u) e = let z : length (take v cells) ≡ v = length-take-le v cells (omega arith) in rw (e, z)
+  ended-columns (Err (Variable.TooLarge i)) e = rw (e, sub-zero)
+  ended-columns (Err (Variable.Lacks i j)) e = rw (e, sub-zero)
 
-  pub room-all : 8 * n + 4 * v ≤ length ws₁
-  room-all = omega (arith, long-all, R.room)
+  ended-said : (r : Settled) → k ≡ kept_of r v → said ts (take v ended) r ≡ said ts (take v cells) r
+  ended-said (Ok u) e =
+      let z : length (take v cells) ≡ v = length-take-le v cells (omega arith) in
+      ap Settles.settled (rw e (take_at (take v cells) (replicate (4 * v - v) 0) v z))
+  ended-said (Err (Variable.TooLarge i)) e = refl
+  ended-said (Err (Variable.Lacks i j)) e = refl
 
-  module _ (ws' : List ℕ) (e' : ws' ≡ puts ws₁ (8 * n + k) (replicate (4 * v - k) 0)) where
-    is-rules : rules_in n count v ws pool ≡ rules_in n count v ws₀ pool
-    is-rules = rules-low n count v ws₀ ws pool R.tokens (few R) (low-cleared R pool ws e)
+  ended-puts : k ≤ v → puts cells k (replicate (4 * v - k) 0) ≡ ended
+  ended-puts h =
+      let z = length-replicate {A = ℕ} (4 * v - k) 0 in
+      let n : length cells ≤ k + length (replicate {A = ℕ} (4 * v - k) 0) = omega arith in
+      puts-eq cells k (replicate (4 * v - k) 0) (omega arith) ∙ rw (drop_of_length-le cells n) (append-nil ended)
 
-    stays : List ℕ
-    stays = take k (drop (8 * n) ws₁)
+-- over the map
+module _ {n count v : ℕ} {map cells₀ : List ℕ} (M : Mapped n count v map cells₀) (pool : List ℕ) (R : Reads) (t : R.tokens ≡ decode count map pool) (r : R.ranks ≡ ranks_of n map)
+    (k : R.keys ≡ keys_of n v map) (b : R.starts ≡ starts_of n map) (e : R.ends ≡ ends_of n map) where
+  rules-are : rules_of R ≡ rules_in n count v map pool
+  unfolding rules_of rules_in
+  rules-are = rw (t, r, k, b, e) refl
 
-    length-stays : length stays ≡ k
-    unfolding stays
-    length-stays = length-take-le k (drop (8 * n) ws₁) (omega (arith, length-drop (8 * n) ws₁, room-all, small-kept))
+  pub map-clear : (cells : List ℕ) → cells ≡ puts cells₀ 0 (replicate (4 * v) 0) → Clear R v cells
+  map-clear cells q =
+      let z = length-replicate {A = ℕ} (4 * v) 0 in
+      let x : length cells₀ ≤ 0 + length (replicate {A = ℕ} (4 * v) 0) = omega (arith, M.room) in
+      record {
+        tokens = omega (arith, ap length t, length-decode count map pool, M.tokens, M.small);
+        few = omega (arith, M.few, M.small);
+        keys = ap length k ∙ length-take-le v (drop (4 * n) map) (omega (arith, length-drop (4 * n) map, M.long, M.few));
+        clear = q ∙ puts-eq cells₀ 0 (replicate (4 * v) 0) (omega (arith, M.room)) ∙ rw (drop_of_length-le cells₀ x) (append-nil (replicate (4 * v) 0));
+      }
 
-    length-columns : length (stays ++ replicate (4 * v - k) 0) ≡ 4 * v
-    length-columns = omega (arith, length-append stays (replicate (4 * v - k) 0), length-stays, length-replicate {A = ℕ} (4 * v - k) 0, small-kept)
+  pub map-resolved : (cells : List ℕ) → length cells ≡ length cells₀ → (s : Settled) (passes : ℕ) → Runs R (take v cells) s passes → (j : ℕ) → j ≡ kept_of s v
+      → (cells' : List ℕ) → cells' ≡ puts cells j (replicate (4 * v - j) 0) → Resolved n count v pool map cells' s passes
+  map-resolved cells l s passes A j q cells' x =
+      let y : cells' ≡ ended (decode count map pool) v j cells (l ∙ M.room) = x ∙ ended-puts (decode count map pool) v j cells (l ∙ M.room) (omega (arith, kept-few s v)) in
+      let z : said (decode count map pool) (take v cells) s ≡ resolve_lens (rules_in n count v map pool) = ap (λ (ts : List Token). said ts (take v cells) s) (sym t) ∙ A.is_answer ∙ ap resolve_lens rules-are in
+      record {
+        is_answer = rw y (ended-said (decode count map pool) v j cells (l ∙ M.room) s q ∙ z);
+        is_count = A.is_count ∙ ap pass_count rules-are;
+        is_columns = y ∙ ended-columns (decode count map pool) v j cells (l ∙ M.room) s q ∙ ap (columns v) z;
+      }
 
-    in_one : ws' ≡ puts ws₁ (8 * n) (stays ++ replicate (4 * v - k) 0)
-    unfolding stays
-    in_one =
-        e' ∙ ap₂ (λ (l : List ℕ) (i : ℕ). puts l (8 * n + i) (replicate (4 * v - k) 0)) (sym (puts-same ws₁ (8 * n) k (omega (arith, room-all, small-kept)))) (sym length-stays)
-        ∙ puts-puts ws₁ (8 * n) (take k (drop (8 * n) ws₁)) (replicate (4 * v - k) 0)
-
-    over_first : puts ws₁ (8 * n) (stays ++ replicate (4 * v - k) 0) ≡ puts ws₀ (8 * n) (stays ++ replicate (4 * v - k) 0)
-    over_first =
-        let q : 8 * n + length (stays ++ replicate (4 * v - k) 0) ≡ 8 * n + 4 * v = omega (arith, length-columns) in
-        puts-window ws₁ ws₀ (8 * n) (stays ++ replicate (4 * v - k) 0) long-all (omega (arith, q, room-all)) (A.low ∙ low-cleared R pool ws e) (rw q (A.high ∙ high-cleared R pool ws e))
-
-    is-columns : stays ++ replicate (4 * v - k) 0 ≡ columns v (meaning n count v ws₁ pool r)
-    unfolding columns stays
-    is-columns = go r ek
-      where
-        go : (s : Settled) → k ≡ kept_of s v → take k (drop (8 * n) ws₁) ++ replicate (4 * v - k) 0 ≡ columns v (meaning n count v ws₁ pool s)
-        go Set.Resolved q = let l : length (lengths_of n v ws₁) ≡ v = length-take-le v (drop (8 * n) ws₁) (omega (arith, length-drop (8 * n) ws₁, room-all, few R)) in rw (q, l)
-        go (Set.TooLarge i) q = rw (q, sub-zero)
-        go (Set.Lacks i j) q = rw (q, sub-zero)
-
-    is-meaning : meaning n count v ws' pool r ≡ meaning n count v ws₁ pool r
-    is-meaning = go r ek
-      where
-        go : (s : Settled) → k ≡ kept_of s v → meaning n count v ws' pool s ≡ meaning n count v ws₁ pool s
-        go Set.Resolved q = ap Settles.settled (ap (lengths_of n v) e' ∙ column-before v (8 * n) ws₁ (8 * n + k) (replicate (4 * v - k) 0) (omega arith))
-        go (Set.TooLarge i) q = refl
-        go (Set.Lacks i j) q =
-            ap (λ (ts : List Token). Settles.lacks i (token_at ts j))
-            (decode-low (8 * n) ws₁ ws' (rw e' (take-puts (8 * n) ws₁ (8 * n + k) (replicate (4 * v - k) 0) (omega arith))) count pool (omega (arith, R.tokens)))
-
-    pub resolved : Resolves n count v pool ws₀ ws' r passes
-    resolved =
-        record {
-          is_answer = is-meaning ∙ A.is_answer ∙ ap resolve_lens is-rules;
-          is_count = A.is_count ∙ ap pass_count is-rules;
-          is_workspace = in_one ∙ over_first ∙ ap (puts ws₀ (8 * n)) (is-columns ∙ ap (columns v) (A.is_answer ∙ ap resolve_lens is-rules));
-        }
+-- in the whole workspace
+pub resolves : {n count v : ℕ} {pool ws : List ℕ} → Room n count v ws → (map rest cells beyond cells' ws' : List ℕ) → map ≡ take (8 * n) ws → rest ≡ drop (8 * n) ws → cells ≡ take (4 * v) rest → beyond ≡ drop (4 * v) rest
+    → length cells' ≡ length cells → ws' ≡ map ++ (cells' ++ beyond) → (s : Settled) (passes : ℕ) → Resolved n count v pool map cells' s passes → Resolves n count v pool ws ws' s passes
+resolves {n} {count} {v} {pool} {ws} M map rest cells beyond cells' ws' em er ec eb l e s passes A =
+    let f : v ≤ n = omega (arith, M.few, M.tokens) in
+    let lr : length rest ≡ length ws - 8 * n = ap length er ∙ length-drop (8 * n) ws in
+    let lm : length map ≡ 8 * n = ap length em ∙ length-take-le (8 * n) ws (omega (arith, M.room)) in
+    let lc : length cells' ≡ 4 * v = l ∙ ap length ec ∙ length-take-le (4 * v) rest (omega (arith, M.room)) in
+    let b : beyond ≡ drop (8 * n + length cells') ws = eb ∙ ap (drop (4 * v)) er ∙ drop-drop (4 * v) (8 * n) ws ∙ ap (λ (k : ℕ). drop (8 * n + k) ws) (sym lc) in
+    let w : ws' ≡ puts ws (8 * n) cells' =
+    e ∙ ap₂ (λ (p q : List ℕ). p ++ (cells' ++ q)) em b ∙ sym (append_assoc (take (8 * n) ws) cells' (drop (8 * n + length cells') ws)) ∙ sym (puts-eq ws (8 * n) cells' (omega (arith, M.room))) in
+    let lo : take (8 * n) map ≡ take (8 * n) ws = ap (take (8 * n)) em ∙ take-take (8 * n) (8 * n) ws (omega arith) in
+    let lo' : take (8 * n) ws' ≡ take (8 * n) map = ap (take (8 * n)) w ∙ take-puts (8 * n) ws (8 * n) cells' (omega arith) ∙ sym lo in
+    let d : decode count ws' pool ≡ decode count map pool = decode-low (8 * n) map ws' lo' count pool (omega (arith, M.tokens)) in
+    let u : rules_in n count v map pool ≡ rules_in n count v ws pool = rules-low n count v ws map pool M.tokens f lo in
+    let g : lengths_of n v ws' ≡ take v cells' =
+    ap (λ (x : List ℕ). take v (drop (8 * n) x)) e ∙ ap (take v) (drop_at map (cells' ++ beyond) (8 * n) lm) ∙ take-append-le v cells' beyond (omega arith) in
+    record {
+      is_answer = ap₂ (λ (ts : List Token) (x : List ℕ). said ts x s) d g ∙ A.is_answer ∙ ap resolve_lens u;
+      is_count = A.is_count ∙ ap pass_count u;
+      is_workspace = w ∙ ap (puts ws (8 * n)) (A.is_columns ∙ ap (λ (x : List (List Piece)). columns v (resolve_lens x)) u);
+    }

@@ -1,72 +1,75 @@
 -- Sums that go on: what the code reads, and what they come to by the rules. Assumes nothing.
-use Prim.Native.Nat.{ℕ, suc, ◌+◌, ◌-◌, ◌≤◌, ◌<◌, ◌%◌}
-use mathlib.Core.Path.{◌≡◌, sym, ◌∙◌}
-use mathlib.Core.Bool.{Bool, true, false}
-use mathlib.Core.List.{List, [], ◌∷◌}
+use Prim.Native.Nat.{ℕ, zero, suc, ◌+◌, ◌-◌, ◌≤◌, ◌<◌}
+use mathlib.Core.Path.{◌≡◌, refl, sym, ◌∙◌, ap}
+use mathlib.Core.List.{List}
 use native.Mathlib.Numerals.{add-one}
 use native.Mathlib.Omega.{arith}
-use lib.Dec.{leb}
-use lib.ListN.{length, get_or, take, drop, length-take, length-drop}
+use lib.ListN.{length, get_or}
 use borrow.Author.Tests.{eq-eqb, ne_eqb, lt-ltb, le-ltb}
+use Rattle.std.specs.Prelude.{Option, None, Some, SomeIff, Ok, Err}
 use Rattle.rules.specs.Bytes.{pick}
-use Rattle.rules.specs.Tokens.{token, is_a, variable_kind}
-use Rattle.tokens.specs.Entries.{decode, token_at, kind_at, entry_at, from_entry}
-use Rattle.tokens.proofs.TokenLaws.{kind-at, token-by}
-use Rattle.workspace.specs.Map.{ranks_of, lengths_of}
-use Rattle.passes.specs.Sums.{top, size_of, size_at, advance}
-use Rattle.passes.specs.declared.sums.Advance.TheVariants as Adv
+use Rattle.rules.specs.Tokens.{Token, is_a}
+use Rattle.tokens.specs.Entries.{token_at}
+use Rattle.passes.specs.Sums.{top, size_of, size_in, added, advance}
+use Rattle.passes.specs.declared.sums.Stop.TheVariants.{Over, Missing}
 
--- a text is no longer than the pool, or one byte
-pub text-small : (count : ℕ) (ws pool : List ℕ) (j : ℕ) → length (token_at (decode count ws pool) j).text ≤ length pool + 1
-unfolding from_entry token pick
-text-small count ws pool j = rw (token-by count ws pool j) (go (leb (entry_at count ws j 0) variable_kind))
-  where
-    go : (b : Bool) → length (pick b (take (entry_at count ws j 2) (drop (entry_at count ws j 1) pool)) (entry_at count ws j 1 % 256 ∷ [])) ≤ length pool + 1
-    go true = omega (arith, length-take (entry_at count ws j 2) (drop (entry_at count ws j 1) pool), length-drop (entry_at count ws j 1) pool)
-    go false = omega arith
+-- an entry less one, where it is not 0
+added-less : (r : ℕ) (o : Option ℕ) → SomeIff o (1 ≤ r) (r - 1) → o ≡ added r
+added-less zero (Some x) h = absurd (omega (arith, h.0))
+added-less (suc r) (Some x) h = ap (λ (y : ℕ). Some y) (omega (arith, h.1))
+added-less zero None h = refl
+added-less (suc r) None h = absurd (h (omega arith))
 
 -- what `size_at` reads
-module _ (n count v : ℕ) (ws pool : List ℕ) (j k : ℕ) (e : k ≡ kind_at count ws j) where
-  is-kind : (token_at (decode count ws pool) j).kind ≡ k
-  is-kind = sym (e ∙ kind-at count ws pool j)
-
-  pub size-dropped : k ≡ 0 → 1 ≡ size_at n count v ws pool j
+module _ (ts : List Token) (ranks lens : List ℕ) (j k : ℕ) (e : k ≡ (token_at ts j).kind) where
+  pub size-dropped : k ≡ 0 → Some 0 ≡ added (size_in ts ranks lens j)
   unfolding size_of is_a pick
-  size-dropped h = rw (eq-eqb (token_at (decode count ws pool) j).kind 0 (is-kind ∙ h))
+  size-dropped h = rw (eq-eqb (token_at ts j).kind 0 (sym e ∙ h))
 
-  pub size-ref : (p r : ℕ) → k ≡ 2 → p ≡ get_or (ranks_of n ws) j 0 → r ≡ get_or (lengths_of n v ws) p 0 → r ≡ size_at n count v ws pool j
+  pub size-ref : (p r : ℕ) → k ≡ 2 → p ≡ get_or ranks j 0 → r ≡ get_or lens p 0 → (o : Option ℕ) → SomeIff o (1 ≤ r) (r - 1) → o ≡ added (size_in ts ranks lens j)
   unfolding size_of is_a pick
-  size-ref p r h q x =
-      let a : (token_at (decode count ws pool) j).kind ≡ 2 = is-kind ∙ h in
-      rw (ne_eqb (token_at (decode count ws pool) j).kind 0 (λ z. omega arith), eq-eqb (token_at (decode count ws pool) j).kind 2 a, ← q) x
+  size-ref p r h q x o y =
+      let a : (token_at ts j).kind ≡ 2 = sym e ∙ h in
+      added-less r o y ∙ rw (ne_eqb (token_at ts j).kind 0 (λ z. omega arith), eq-eqb (token_at ts j).kind 2 a, ← q) (ap added x)
 
-  pub size-text : (r : ℕ) → (k ≡ 0 → ⊥) → (k ≡ 2 → ⊥) → r ≡ length (token_at (decode count ws pool) j).text → r + 1 ≡ size_at n count v ws pool j
+  pub size-text : (r : ℕ) → (k ≡ 0 → ⊥) → (k ≡ 2 → ⊥) → r ≡ length (token_at ts j).text → Some r ≡ added (size_in ts ranks lens j)
   unfolding size_of is_a pick
   size-text r h h' q =
-      rw (ne_eqb (token_at (decode count ws pool) j).kind 0 (λ z. h (sym is-kind ∙ z)), ne_eqb (token_at (decode count ws pool) j).kind 2 (λ z. h' (sym is-kind ∙ z)), ← q, add-one)
+      rw (ne_eqb (token_at ts j).kind 0 (λ z. h (e ∙ z)), ne_eqb (token_at ts j).kind 2 (λ z. h' (e ∙ z))) (ap (λ (x : ℕ). Some x) q)
+
+-- the size by what it adds
+added-none : (x : ℕ) → None ≡ added x → x ≡ 0
+added-none zero e = refl
+added-none (suc x) e = absurd (let z : ◌≡◌ {A = ℕ} 0 1 = cc in omega arith)
+
+added-some : (x y : ℕ) → Some y ≡ added x → x ≡ suc y
+added-some zero y e = absurd (let z : ◌≡◌ {A = ℕ} 0 1 = cc in omega arith)
+added-some (suc x) y e = let q : y ≡ x = cc in ap suc (sym q)
 
 -- turns of the loop
 module _ (size : ℕ → ℕ) (k to s : ℕ) where
-  pub advance-end : to ≤ k → advance size k s (to - k) ≡ Adv.Sum s
+  pub advance-end : to ≤ k → advance size k s (to - k) ≡ Ok s
   unfolding advance
   advance-end h = let e : to - k ≡ 0 = omega arith in rw e
 
-  module _ (h : k < to) (x : ℕ) (e : x ≡ size k) where
+  module _ (h : k < to) where
     more : to - k ≡ suc (to - suc k)
     more = omega arith
 
-    pub advance-missing : x ≡ 0 → advance size k s (to - k) ≡ Adv.Missing k s
+    pub advance-missing : None ≡ added (size k) → advance size k s (to - k) ≡ Err (Missing k s)
     unfolding advance
-    advance-missing z = rw (more, sym e ∙ z, advance)
+    advance-missing e = rw (more, added-none (size k) e, advance)
 
-    module _ (z : x ≡ 0 → ⊥) (f : s ≤ top) where
-      is-size : size k ≡ suc (x - 1)
-      is-size = sym e ∙ omega arith
+    module _ (x : ℕ) (e : Some x ≡ added (size k)) (f : s ≤ top) where
+      is-size : size k ≡ suc x
+      is-size = added-some (size k) x e
 
-      pub advance-over : top - s < x - 1 → advance size k s (to - k) ≡ Adv.Over
+      pub advance-over : top - s < x → advance size k s (to - k) ≡ Err Over
       unfolding advance pick
-      advance-over o = rw (more, is-size, lt-ltb top (s + (x - 1)) (omega arith), advance)
+      advance-over o = rw (more, is-size, lt-ltb top (s + x) (omega arith), advance)
 
-      pub advance-more : x - 1 ≤ top - s → advance size k s (to - k) ≡ advance size (k + 1) (s + (x - 1)) (to - (k + 1))
+      pub advance-more : x ≤ top - s → advance size k s (to - k) ≡ advance size (k + 1) (s + x) (to - (k + 1))
       unfolding advance pick
-      advance-more o = rw (more, is-size, le-ltb top (s + (x - 1)) (omega arith), advance, add-one)
+      advance-more o = rw (more, is-size, le-ltb top (s + x) (omega arith), advance, add-one)
+
+pub ruleset sizes = (size-dropped, size-ref, size-text)

@@ -1,25 +1,33 @@
 -- A variable's turn in a pass, and the smallest name left. Assumes nothing.
-use Prim.Native.Nat.{ℕ, zero, suc, ◌+◌, ◌*◌, ◌≤◌, ◌<◌}
+use Prim.Native.Nat.{ℕ, zero, suc, ◌+◌, ◌≤◌, ◌<◌}
 use mathlib.Core.Path.{◌≡◌, refl, sym, ◌∙◌, ap}
 use mathlib.Core.Bool.{Bool, true, false}
 use mathlib.Core.List.{List, [], ◌∷◌}
 use native.Mathlib.Numerals.{add-one}
 use native.Mathlib.Omega.{arith}
 use lib.Dec.{ltb}
-use lib.ListN.{length, get_or, drop, set, replicate, drop_of_length-le}
+use lib.ListN.{length, get_or, drop, set, replicate, drop_of_length-le, length-map}
 use lib.Seq.{drop-cons}
+use Rattle.std.proofs.lemmas.Bool.{eqb-true, eq-eqb}
+use Rattle.std.specs.Prelude.{Option, None, Some, Result, Ok, Err, eqb}
+use Rattle.std.specs.List.{position, position_or_len}
+use Rattle.std.proofs.lemmas.List.Sums.{fails_before_first}
+use borrow.Author.Tests.{lt-ltb}
+use native.Mathlib.Decide.{dec_lt}
+use Rattle.rules.proofs.BytesLaws.{false-true}
+use Rattle.std.proofs.lemmas.List.Quantifiers.{position-Some}
 use Rattle.rules.specs.Tokens.{Token}
 use Rattle.rules.specs.Variables.{Piece, text, ref, limit}
 use Rattle.rules.proofs.Lengths.{Sum, bounded_sum, add, add-missing, add-more, lens-valued, lens-over, lens-missing, lens-sum, Settles, lacking_lens, left_lens}
-use Rattle.tokens.specs.Entries.{decode, token_at}
-use Rattle.workspace.specs.Map.{rules_in, lengths_of, Room}
-use Rattle.workspace.proofs.Links.{rules-length}
-use Rattle.passes.specs.Visits.{rule, advance_in, State, Visits, zeros, Steps, Beyond}
-use Rattle.passes.proofs.States.{few, column-length, lacks-token}
-use Rattle.passes.specs.declared.sums.Advance.{Advance}
-use Rattle.passes.specs.declared.sums.Advance.TheVariants as Adv
+use Rattle.tokens.specs.Entries.{token_at}
+use Rattle.workspace.specs.Map.{rule_at}
+use Rattle.passes.specs.Visits.{Reads, rules_of, rule, advance_in, State, Visits, zeros, Steps, Lacking, Stuck, said}
+use Rattle.passes.proofs.States.{lacks-token}
+use Rattle.passes.specs.declared.sums.Stop.TheVariants.{Missing}
+use Rattle.passes.specs.declared.visits.TooLarge.{TooLarge}
 use Rattle.passes.specs.declared.visits.Visited.{Visited}
-use Rattle.passes.specs.declared.visits.Visited.TheVariants as Vis
+use Rattle.passes.specs.declared.visits.Visited.TheVariants.{Known, Blocked, Valued}
+use Rattle.passes.specs.declared.visits.Unresolved.TheVariants.{Lacks}
 
 pub zeros-set : (l : List ℕ) (i t : ℕ) → i < length l → get_or l i 0 ≡ 0 → zeros (set l i (suc t)) < zeros l
 unfolding zeros
@@ -38,59 +46,48 @@ nonzero : (x : ℕ) → (x ≡ 0 → ⊥) → (k : ℕ) × (x ≡ suc k)
 nonzero zero z = absurd (z refl)
 nonzero (suc k) z = (k, refl)
 
-module _ {n count v : ℕ} {ws : List ℕ} (R : Room n count v ws) (pool : List ℕ) where
-  pub rules-count : length (rules_in n count v ws pool) ≡ v
-  rules-count = rules-length n count v ws pool (omega (arith, R.room, few R))
+module _ (R : Reads) where
+  pub rules-count : length (rules_of R) ≡ length R.keys
+  unfolding rules_of
+  rules-count = length-map R.keys (rule_at R.tokens R.ranks R.starts R.ends)
 
-  pub rule-next : (i : ℕ) → i < v → drop i (rules_in n count v ws pool) ≡ rule n count v ws pool i ∷ drop (suc i) (rules_in n count v ws pool)
-  rule-next i h = drop-cons (rules_in n count v ws pool) i [] (omega (arith, rules-count))
+  pub rule-next : (i : ℕ) → i < length R.keys → drop i (rules_of R) ≡ rule R i ∷ drop (suc i) (rules_of R)
+  rule-next i h = drop-cons (rules_of R) i [] (omega (arith, rules-count))
 
-  pub rules-past : (i : ℕ) → v ≤ i → drop i (rules_in n count v ws pool) ≡ []
-  rules-past i h = let q : length (rules_in n count v ws pool) ≤ i = omega (arith, rules-count) in drop_of_length-le (rules_in n count v ws pool) q
+  pub rules-past : (i : ℕ) → length R.keys ≤ i → drop i (rules_of R) ≡ []
+  rules-past i h = let q : length (rules_of R) ≤ i = omega (arith, rules-count) in drop_of_length-le (rules_of R) q
 
 -- a turn; x is the entry of the variable's length
-module _ {n count v : ℕ} {pool ws : List ℕ} (S : State n count v pool ws ws) (i : ℕ) (h : i < v) (x : ℕ) (e : x ≡ get_or (lengths_of n v ws) i 0) where
-  next : drop i (rules_in n count v ws pool) ≡ rule n count v ws pool i ∷ drop (suc i) (rules_in n count v ws pool)
-  next = rule-next S.room pool i h
-
-  pub step-valued : (x ≡ 0 → ⊥) → State n count v pool ws ws × Steps n count v pool ws ws i Vis.Known × Beyond n v ws ws
+module _ {R : Reads} {lens stops sums : List ℕ} (S : State R lens stops sums) (i : ℕ) (h : i < length R.keys) (x : ℕ) (e : x ≡ get_or lens i 0) where
+  pub step-valued : (x ≡ 0 → ⊥) → State R lens stops sums × Steps R lens stops lens stops i (Ok Known)
   step-valued z =
-      let y = nonzero x z in (
-        S,
-        (
-          refl,
-          λ q. z (e ∙ q),
-          λ f. rw (next, add-one) (lens-valued i (rule n count v ws pool i) (drop (suc i) (rules_in n count v ws pool)) f (lengths_of n v ws) y.0 (sym e ∙ y.1)),
-        ),
-        refl,
-      )
+      let y = nonzero x z in
+      (S, (refl, refl, λ q. z (e ∙ q), λ f. rw (rule-next R i h, add-one) (lens-valued i (rule R i) (drop (suc i) (rules_of R)) f lens y.0 (sym e ∙ y.1))))
 
-  pub step-visited : x ≡ 0 → (ws' : List ℕ) (r : Visited) → State n count v pool ws ws' × Visits n count v pool ws ws' i r × Beyond n v ws ws'
-      → State n count v pool ws ws' × Steps n count v pool ws ws' i r × Beyond n v ws ws'
-  step-visited z ws' Vis.Over a =
-      (a.0, λ f. rw next (lens-over i (rule n count v ws pool i) (drop (suc i) (rules_in n count v ws pool)) f (lengths_of n v ws) (sym e ∙ z) a.1), a.2)
-  step-visited z ws' Vis.Known a = absurd a.1
-  step-visited z ws' (Vis.Blocked k) a = (
+  pub step-visited : x ≡ 0 → (lens' stops' sums' : List ℕ) (r : Result Visited TooLarge) → State R lens' stops' sums' × Visits R lens stops lens' stops' i r
+      → State R lens' stops' sums' × Steps R lens stops lens' stops' i r
+  step-visited z lens' stops' sums' (Err k) a =
+      (a.0, (a.1.0, λ f. rw (rule-next R i h) (lens-over i (rule R i) (drop (suc i) (rules_of R)) f lens (sym e ∙ z) a.1.1)))
+  step-visited z lens' stops' sums' (Ok Known) a = absurd a.1
+  step-visited z lens' stops' sums' (Ok (Blocked k)) a = (
     a.0,
     (
       a.1.0,
       a.1.1,
       a.1.2,
       a.1.3,
-      λ f. rw (next, add-one) (lens-missing i (rule n count v ws pool i) (drop (suc i) (rules_in n count v ws pool)) f (lengths_of n v ws) (token_at (decode count ws pool) k) (sym e ∙ z) a.1.4),
+      λ f. rw (rule-next R i h, add-one) (lens-missing i (rule R i) (drop (suc i) (rules_of R)) f lens (token_at R.tokens k) (sym e ∙ z) a.1.4),
     ),
-    a.2,
   )
-  step-visited z ws' Vis.Valued a = (
+  step-visited z lens' stops' sums' (Ok Valued) a = (
     a.0,
     (
       a.1.0,
-      rw a.1.2 (zeros-set (lengths_of n v ws) i a.1.0 (omega (arith, column-length S.room (8 * n) (omega arith))) (sym e ∙ z)),
+      rw a.1.2 (zeros-set lens i a.1.0 (omega (arith, S.lens_long)) (sym e ∙ z)),
       a.1.2,
       a.1.3,
-      λ f. rw (next, add-one, a.1.2) (lens-sum i (rule n count v ws pool i) (drop (suc i) (rules_in n count v ws pool)) f (lengths_of n v ws) a.1.0 (sym e ∙ z) a.1.1),
+      λ f. rw (rule-next R i h, add-one, a.1.2) (lens-sum i (rule R i) (drop (suc i) (rules_of R)) f lens a.1.0 (sym e ∙ z) a.1.1),
     ),
-    a.2,
   )
 
 -- what is missing is what the rules say is lacking
@@ -112,32 +109,48 @@ lacking-is lens (ref r j ∷ ps) n m e = go (get_or lens j 0) refl (λ k q. lack
     go zero q ih = let y : Sum.missing r ≡ Sum.missing m = sym (add-missing lens n r j ps q) ∙ e in rw (q, lacking_lens) cc
     go (suc k) q ih = rw (q, lacking_lens) (ih k (bounded-missing (n + k) (add lens (n + k) ps) m (sym (add-more lens n r j ps k q) ∙ e)))
 
--- what `lacking` answers, where r is what going on with the sum comes to
-pub lacking-token : {n count v : ℕ} {pool ws : List ℕ} → State n count v pool ws ws → (i : ℕ) → i < v → (r : Advance) (k t : ℕ) → r ≡ advance_in n count v ws pool i → r ≡ Adv.Missing k t
-    → lacking_lens (lengths_of n v ws) (rule n count v ws pool i) ≡ token_at (decode count ws pool) k
-lacking-token {n} {count} {v} {pool} {ws} S i h r k t e q =
-    lacking-is (lengths_of n v ws) (rule n count v ws pool i) 0 (token_at (decode count ws pool) k) (lacks-token S i h k t (sym q ∙ e))
+-- what `lacking` answers
+pub lacking-token : {R : Reads} {lens stops sums : List ℕ} → State R lens stops sums → (i : ℕ) → i < length R.keys → (k t : ℕ) → Err (Missing k t) ≡ advance_in R lens stops sums i
+    → lacking_lens lens (rule R i) ≡ token_at R.tokens k
+lacking-token {R} {lens} S i h k t e = lacking-is lens (rule R i) 0 (token_at R.tokens k) (lacks-token S i h k t e)
 
--- the smallest name left, from the i-th on
-abbrev pub LeftFrom : ℕ → ℕ → ℕ → List ℕ → List ℕ → ℕ → Type 0
-LeftFrom n count v ws pool i = left_lens i (drop i (rules_in n count v ws pool)) (lengths_of n v ws) ≡ left_lens 0 (rules_in n count v ws pool) (lengths_of n v ws)
+-- where none is 0
+none-first : (l : List ℕ) → position (λ x. eqb x 0) l ≡ None → length l ≤ position_or_len (λ x. eqb x 0) l
+none-first l e = elim (dec_lt (position_or_len (λ x. eqb x 0) l) (length l)) [
+  | yes h ↦ absurd (let y : Some (position_or_len (λ x. eqb x 0) l) ≡ None = rw (lt-ltb (position_or_len (λ x. eqb x 0) l) (length l) h) at e in let z : ◌≡◌ {A = ℕ} 0 1 = cc in omega arith)
+  | no h ↦ omega arith
+]
 
-module _ {n count v : ℕ} {pool ws : List ℕ} (S : State n count v pool ws ws) (i : ℕ) (e : LeftFrom n count v ws pool i) where
-  pub left_end : v ≤ i → Settles.settled (lengths_of n v ws) ≡ left_lens 0 (rules_in n count v ws pool) (lengths_of n v ws)
+-- the smallest name left
+module _ {R : Reads} {lens stops sums : List ℕ} (S : State R lens stops sums) where
+  -- those before it have values
+  left-on : (k : ℕ) → k ≤ length R.keys → ((j : ℕ) → j < k → get_or lens j 0 ≡ 0 → ⊥) → left_lens 0 (rules_of R) lens ≡ left_lens k (drop k (rules_of R)) lens
   unfolding left_lens
-  left_end h = rw (rules-past S.room pool i h) at e
+  left-on zero h v = refl
+  left-on (suc k) h v =
+      let x = nonzero (get_or lens k 0) (v k (omega arith)) in
+      left-on k (omega arith) (λ j l. v j (omega arith)) ∙ rw (rule-next R k (omega arith), x.1, left_lens) refl
 
-  module _ (h : i < v) (x : ℕ) (y : x ≡ get_or (lengths_of n v ws) i 0) where
-    pub left-more : (x ≡ 0 → ⊥) → LeftFrom n count v ws pool (i + 1)
-    unfolding left_lens
-    left-more z =
-        let k = nonzero x z in
-        let q : get_or (lengths_of n v ws) i 0 ≡ suc k.0 = sym y ∙ k.1 in
-        rw add-one (rw (rule-next S.room pool i h, q, left_lens) at e)
+  pub left-none : (r : Option ℕ) → r ≡ position (λ x. eqb x 0) lens → r ≡ None → said R.tokens lens (Ok tt) ≡ left_lens 0 (rules_of R) lens
+  unfolding left_lens
+  left-none r e q =
+      let n : length lens ≤ position_or_len (λ x. eqb x 0) lens = none-first lens (sym e ∙ q) in
+      sym (left-on (length R.keys) (omega arith) (λ j l z. false-true (fails_before_first (λ x. eqb x 0) lens j 0 (omega (arith, S.lens_long))) (eq-eqb (get_or lens j 0) 0 z))
+      ∙ rw (rules-past R (length R.keys) (omega arith)) refl)
 
-    pub left-lacks : (k : ℕ) → x ≡ 0 → lacking_lens (lengths_of n v ws) (rule n count v ws pool i) ≡ token_at (decode count ws pool) k
-        → Settles.lacks i (token_at (decode count ws pool) k) ≡ left_lens 0 (rules_in n count v ws pool) (lengths_of n v ws)
-    unfolding left_lens
-    left-lacks k z l =
-        let q : get_or (lengths_of n v ws) i 0 ≡ 0 = sym y ∙ z in
-        ap (λ (m : Token). Settles.lacks i m) (sym l) ∙ (rw (rule-next S.room pool i h, q, left_lens) at e)
+  pub some-lacks : (r : Option ℕ) → r ≡ position (λ x. eqb x 0) lens → (i : ℕ) → r ≡ Some i → Stuck R lens → State R lens stops sums × (i < length R.keys) × Lacking R lens i
+  some-lacks r e i q u =
+      let f = position-Some (λ x. eqb x 0) lens i 0 (sym e ∙ q) in
+      let h : i < length R.keys = omega (arith, f.0, S.lens_long) in
+      let x = u i h (eqb-true (get_or lens i 0) 0 f.1) in
+      (S, h, record { token = x.0; is = x.1 })
+
+  pub left-some : (r : Option ℕ) → r ≡ position (λ x. eqb x 0) lens → (i k : ℕ) → r ≡ Some i → lacking_lens lens (rule R i) ≡ token_at R.tokens k
+      → said R.tokens lens (Err (Lacks i k)) ≡ left_lens 0 (rules_of R) lens
+  unfolding left_lens
+  left-some r e i k q l =
+      let f = position-Some (λ x. eqb x 0) lens i 0 (sym e ∙ q) in
+      let z = eqb-true (get_or lens i 0) 0 f.1 in
+      let y : Settles.lacks i (lacking_lens lens (rule R i)) ≡ left_lens i (drop i (rules_of R)) lens = rw (rule-next R i (omega (arith, f.0, S.lens_long)), z, left_lens) refl in
+      ap (λ (m : Token). Settles.lacks i m) (sym l) ∙ y
+      ∙ sym (left-on i (omega (arith, f.0, S.lens_long)) (λ j h v. false-true (f.2 j h) (eq-eqb (get_or lens j 0) 0 v)))

@@ -1,53 +1,40 @@
 -- Blocks of variables, and which variables wait for a value. Assumes nothing.
-use Rattle.std.specs.Prelude.{ℕ, suc, ◌+◌, ◌*◌, ◌^◌, ◌≤◌, ◌<◌, ◌≡◌, Bool, true, false, List, ltb, get_or, take, drop, set}
+use Rattle.std.specs.Prelude.{ℕ, suc, ◌+◌, ◌*◌, ◌^◌, ◌≤◌, ◌<◌, ◌≡◌, Bool, true, false, List, length, get_or, set, Option, None, Some, Result, Ok, Err}
 use Rattle.std.specs.Int.Bits.{bit_or}
-use Rattle.rules.specs.Bytes.{pick}
-use Rattle.rules.specs.Tokens.{Token}
 use Rattle.rules.proofs.Lengths.{Lens}
-use Rattle.tokens.specs.Entries.{decode, token_at}
 use Rattle.scan.specs.Bits.{bit_at}
-use Rattle.workspace.specs.Map.{ranks_of, lengths_of}
-use Rattle.passes.specs.Sums.{size_of}
-use Rattle.passes.specs.Visits.{stops_of, end_at, zeros, pass_from}
-use Rattle.passes.specs.declared.blocks.Turned.{Turned}
-use Rattle.passes.specs.declared.blocks.Turned.TheVariants as Tur
+use Rattle.passes.specs.Visits.{Reads, end_at, size_at, zeros, pass_from}
+use Rattle.passes.specs.declared.blocks.Blocks.{Blocks}
+use Rattle.passes.specs.declared.visits.TooLarge.{TooLarge}
 
 -- the variable of rank t stands in block b, of w variables
 abbrev pub Block : ℕ → ℕ → ℕ → Type 0
 Block w t b = (b * w ≤ t) × (t < b * w + w)
 
--- by rank: the blocks in which a variable waits for the value
-abbrev pub waiters_of : ℕ → ℕ → List ℕ → List ℕ
-waiters_of n v ws = take v (drop (8 * n + 3 * v) ws)
+-- by rank the blocks in which a variable waits for the value, where block b is marked at the variable to which token j refers
+abbrev pub marked_at : List ℕ → ℕ → ℕ → List ℕ → List ℕ
+marked_at ranks j b waiters = set waiters (get_or ranks j 0) (bit_or (get_or waiters (get_or ranks j 0) 0) (2 ^ b))
 
--- the workspace, where block b is marked at the variable to which token j refers
-unfoldable pub marked_at : ℕ → ℕ → ℕ → ℕ → List ℕ → List ℕ
-marked_at n v j b ws =
-    pick (ltb (get_or (ranks_of n ws) j 0) v) (set ws (8 * n + 3 * v + get_or (ranks_of n ws) j 0) (bit_or (get_or ws (8 * n + 3 * v + get_or (ranks_of n ws) j 0) 0) (2 ^ b))) ws
-
--- Variable t waits: its sum stopped at this token, before the end `to` of its value; the token refers to no value, and block b is marked there
-pub record Waiting (v : ℕ) (ts : List Token) (ranks : List ℕ) (to : ℕ) (lens stops waiters : List ℕ) (t b : ℕ) : Type 0 where
+-- Variable t waits: its sum stopped at this token, before the end of its value; the token refers to no value, and block b is marked there
+pub record Waiting (R : Reads) (lens stops waiters : List ℕ) (t b : ℕ) : Type 0 where
   pub token : ℕ
   pub stop : get_or stops t 0 ≡ suc token
-  pub inside : token < to
-  pub lacks : size_of lens (get_or ranks token 0) (token_at ts token) ≡ 0
-  pub marked : get_or ranks token 0 < v → bit_at (get_or waiters (get_or ranks token 0) 0) b ≡ true
+  pub inside : token < end_at R t
+  pub lacks : size_at R lens token ≡ 0
+  pub marked : get_or R.ranks token 0 < length R.keys → bit_at (get_or waiters (get_or R.ranks token 0) 0) b ≡ true
 
 -- it has a value or waits, so that a visit would find nothing new
-abbrev pub Rests : ℕ → ℕ → ℕ → List ℕ → List ℕ → List ℕ → ℕ → ℕ → Type 0
-Rests n count v pool ws₀ ws t b = get_or (lengths_of n v ws) t 0 ≡ 0
-    → Waiting v (decode count ws₀ pool) (ranks_of n ws₀) (end_at n v ws₀ t) (lengths_of n v ws) (stops_of n v ws) (waiters_of n v ws) t b
+abbrev pub Rests : Reads → List ℕ → List ℕ → List ℕ → ℕ → ℕ → Type 0
+Rests R lens stops waiters t b = get_or lens t 0 ≡ 0 → Waiting R lens stops waiters t b
 
 -- what the turn of variable i of block b leaves, where the blocks of m waited for it: it rests, and so do all others that did, but in the blocks of m
-pub record Leaves (n count v : ℕ) (pool ws ws' : List ℕ) (i b m : ℕ) : Type 0 where
-  pub own : Rests n count v pool ws ws' i b
-  pub others : (t c : ℕ) → (t ≡ i → ⊥) → bit_at m c ≡ false → Rests n count v pool ws ws t c → Rests n count v pool ws ws' t c
+pub record Leaves (R : Reads) (lens stops waiters lens' stops' waiters' : List ℕ) (i b m : ℕ) : Type 0 where
+  pub own : Rests R lens' stops' waiters' i b
+  pub others : (t c : ℕ) → (t ≡ i → ⊥) → bit_at m c ≡ false → Rests R lens stops waiters t c → Rests R lens' stops' waiters' t c
 
-abbrev pub Turns : ℕ → ℕ → ℕ → List ℕ → List ℕ → List ℕ → ℕ → ℕ → Turned → Type 0
-Turns n count v pool ws ws' i b Tur.Over = (f : Bool) → pass_from n count v ws pool i f (lengths_of n v ws) ≡ Lens.stopped i
-Turns n count v pool ws ws' i b Tur.Nothing =
-    (lengths_of n v ws' ≡ lengths_of n v ws) × Leaves n count v pool ws ws' i b 0
-    × ((f : Bool) → pass_from n count v ws pool i f (lengths_of n v ws) ≡ pass_from n count v ws pool (i + 1) f (lengths_of n v ws))
-Turns n count v pool ws ws' i b (Tur.Wakes m) =
-    (zeros (lengths_of n v ws') < zeros (lengths_of n v ws)) × Leaves n count v pool ws ws' i b m
-    × ((f : Bool) → pass_from n count v ws pool i f (lengths_of n v ws) ≡ pass_from n count v ws pool (i + 1) true (lengths_of n v ws'))
+abbrev pub Turns : Reads → List ℕ → List ℕ → List ℕ → List ℕ → List ℕ → List ℕ → ℕ → ℕ → Result (Option Blocks) TooLarge → Type 0
+Turns R lens stops waiters lens' stops' waiters' i b (Err k) = (k.0 ≡ i) × ((f : Bool) → pass_from R i f lens ≡ Lens.stopped i)
+Turns R lens stops waiters lens' stops' waiters' i b (Ok None) =
+    (lens' ≡ lens) × Leaves R lens stops waiters lens' stops' waiters' i b 0 × ((f : Bool) → pass_from R i f lens ≡ pass_from R (i + 1) f lens)
+Turns R lens stops waiters lens' stops' waiters' i b (Ok (Some m)) =
+    (zeros lens' < zeros lens) × Leaves R lens stops waiters lens' stops' waiters' i b m.0 × ((f : Bool) → pass_from R i f lens ≡ pass_from R (i + 1) true lens')

@@ -1,20 +1,19 @@
 -- The passes on lengths: document 01, "Variables, then fields". Assumes nothing.
-use Rattle.std.specs.Prelude.{ℕ, zero, suc, ◌+◌, ◌*◌, ◌-◌, ◌≤◌, ◌<◌, ◌≡◌, true, false, List, ◌++◌, length, take, drop, replicate}
+use Rattle.std.specs.Prelude.{ℕ, zero, suc, ◌*◌, ◌-◌, ◌≤◌, ◌<◌, ◌≡◌, true, false, List, ◌++◌, length, take, replicate, Option, None, Some, Result, Ok, Err}
 use Rattle.rules.specs.Variables.{Piece}
 use Rattle.rules.proofs.Lengths.{Lens, pass_lens, stopped, passed, Settles, settled, too_large_at, lacks, resolve_lens}
 use Rattle.scan.specs.Stores.{puts}
-use Rattle.workspace.specs.Map.{lengths_of, rules_in}
-use Rattle.passes.specs.Visits.{State, zeros, pass_from, Stuck, meaning}
 use Rattle.scan.specs.Bits.{bit_at}
+use Rattle.tokens.specs.Entries.{decode}
+use Rattle.workspace.specs.Map.{rules_in}
+use Rattle.passes.specs.Visits.{Reads, rules_of, State, zeros, pass_from, Stuck, Settled, said, meaning}
 use Rattle.passes.specs.Blocks.{Block, Rests}
-use Rattle.passes.specs.declared.Passed.{Passed}
-use Rattle.passes.specs.declared.Passed.TheVariants as Pas
-use Rattle.passes.specs.declared.visits.Settled.{Settled}
-use Rattle.passes.specs.declared.visits.Settled.TheVariants as Set
+use Rattle.passes.specs.declared.blocks.Blocks.{Blocks}
+use Rattle.passes.specs.declared.visits.TooLarge.{TooLarge}
 
 -- all that may find something new stand in the blocks of m, of w variables each
-pub record Covers (n count v w m : ℕ) (pool ws₀ ws : List ℕ) : Type 0 where
-  pub at : (t b : ℕ) → t < v → Block w t b → bit_at m b ≡ false → Rests n count v pool ws₀ ws t b
+pub record Covers (R : Reads) (w m : ℕ) (lens stops waiters : List ℕ) : Type 0 where
+  pub at : (t b : ℕ) → t < length R.keys → Block w t b → bit_at m b ≡ false → Rests R lens stops waiters t b
 
 -- there are at most 32 blocks
 pub record Wide (v w : ℕ) : Type 0 where
@@ -22,19 +21,18 @@ pub record Wide (v w : ℕ) : Type 0 where
   pub wide : v ≤ 32 * w
   pub narrow : w ≤ 65535
 
-pub record Turning (n count v w m : ℕ) (pool ws : List ℕ) : Type 0 where
-  pub state : State n count v pool ws ws
-  pub blocks : Wide v w
-  pub covers : Covers n count v w m pool ws ws
+pub record Turning (R : Reads) (w m : ℕ) (lens stops sums waiters : List ℕ) : Type 0 where
+  pub state : State R lens stops sums
+  pub waiters_long : length waiters ≡ length R.keys
+  pub blocks : Wide (length R.keys) w
+  pub covers : Covers R w m lens stops waiters
 
 -- one pass
-abbrev pub Passes : ℕ → ℕ → ℕ → ℕ → List ℕ → List ℕ → List ℕ → Passed → Type 0
-Passes n count v w pool ws ws' (Pas.Stopped i) = pass_from n count v ws pool 0 false (lengths_of n v ws) ≡ Lens.stopped i
-Passes n count v w pool ws ws' (Pas.Found m) =
-    (zeros (lengths_of n v ws') < zeros (lengths_of n v ws)) × (pass_from n count v ws pool 0 false (lengths_of n v ws) ≡ Lens.passed true (lengths_of n v ws'))
-    × Covers n count v w m pool ws ws'
-Passes n count v w pool ws ws' Pas.Idle =
-    Stuck n count v v pool ws (lengths_of n v ws') × (pass_from n count v ws pool 0 false (lengths_of n v ws) ≡ Lens.passed false (lengths_of n v ws'))
+abbrev pub Passes : Reads → ℕ → List ℕ → List ℕ → List ℕ → List ℕ → Result (Option Blocks) TooLarge → Type 0
+Passes R w lens lens' stops' waiters' (Err k) = pass_from R 0 false lens ≡ Lens.stopped k.0
+Passes R w lens lens' stops' waiters' (Ok (Some m)) =
+    (zeros lens' < zeros lens) × (pass_from R 0 false lens ≡ Lens.passed true lens') × Covers R w m.0 lens' stops' waiters'
+Passes R w lens lens' stops' waiters' (Ok None) = Stuck R lens' × (pass_from R 0 false lens ≡ Lens.passed false lens')
 
 -- how many passes are made, the last idle one included
 unfoldable pub count_lens : ℕ → List (List Piece) → List ℕ → ℕ
@@ -48,30 +46,48 @@ unfoldable pub pass_count : List (List Piece) → ℕ
 pass_count rules = count_lens (suc (length rules)) rules (replicate (length rules) 0)
 
 -- no variable has a value, and each starts anew
-pub record Ready (n count v w : ℕ) (pool ws : List ℕ) : Type 0 where
-  pub state : State n count v pool ws ws
-  pub none : lengths_of n v ws ≡ replicate v 0
-  pub blocks : Wide v w
+pub record Ready (R : Reads) (w : ℕ) (lens stops sums waiters : List ℕ) : Type 0 where
+  pub state : State R lens stops sums
+  pub waiters_long : length waiters ≡ length R.keys
+  pub none : lens ≡ replicate (length R.keys) 0
+  pub blocks : Wide (length R.keys) w
 
--- the answer of all passes, and what is as it was
-pub record Runs (n count v : ℕ) (pool ws ws' : List ℕ) (r : Settled) (passes : ℕ) : Type 0 where
-  pub is_answer : meaning n count v ws' pool r ≡ resolve_lens (rules_in n count v ws pool)
-  pub is_count : passes ≡ pass_count (rules_in n count v ws pool)
-  pub long : length ws' ≡ length ws
-  pub low : take (8 * n) ws' ≡ take (8 * n) ws
-  pub high : drop (8 * n + 4 * v) ws' ≡ drop (8 * n + 4 * v) ws
+-- the answer of all passes
+pub record Runs (R : Reads) (lens' : List ℕ) (r : Settled) (passes : ℕ) : Type 0 where
+  pub is_answer : said R.tokens lens' r ≡ resolve_lens (rules_of R)
+  pub is_count : passes ≡ pass_count (rules_of R)
+
+-- four columns of v entries, all 0, for as many variables
+pub record Clear (R : Reads) (v : ℕ) (cells : List ℕ) : Type 0 where
+  pub tokens : length R.tokens ≤ 65535
+  pub few : v ≤ 65535
+  pub keys : length R.keys ≡ v
+  pub clear : cells ≡ replicate (4 * v) 0
+
+-- a map of v variables, and four columns of v entries
+pub record Mapped (n count v : ℕ) (map cells : List ℕ) : Type 0 where
+  pub small : n ≤ 65535
+  pub long : length map ≡ 8 * n
+  pub tokens : count ≤ n
+  pub few : v ≤ n
+  pub room : length cells ≡ 4 * v
 
 -- how many lengths stay
 abbrev pub kept_of : Settled → ℕ → ℕ
-kept_of Set.Resolved v = v
-kept_of (Set.TooLarge i) v = 0
-kept_of (Set.Lacks i j) v = 0
+kept_of (Ok u) v = v
+kept_of (Err e) v = 0
 
 -- what the four columns of v entries from 8n on hold at the end: the lengths, where all have values, and zeros
 unfoldable pub columns : ℕ → Settles → List ℕ
 columns v (settled lens) = lens ++ replicate (4 * v - length lens) 0
 columns v (too_large_at i) = replicate (4 * v) 0
 columns v (lacks i m) = replicate (4 * v) 0
+
+-- the answer, the number of passes, and all four columns
+pub record Resolved (n count v : ℕ) (pool map cells : List ℕ) (r : Settled) (passes : ℕ) : Type 0 where
+  pub is_answer : said (decode count map pool) (take v cells) r ≡ resolve_lens (rules_in n count v map pool)
+  pub is_count : passes ≡ pass_count (rules_in n count v map pool)
+  pub is_columns : cells ≡ columns v (resolve_lens (rules_in n count v map pool))
 
 -- The answer, the number of passes, and the whole workspace
 pub record Resolves (n count v : ℕ) (pool ws ws' : List ℕ) (r : Settled) (passes : ℕ) : Type 0 where

@@ -1,63 +1,78 @@
-// Turns of variables, and who waits for whom. The variables stand in 32 blocks by rank, and a set of blocks is the bits of a word. At 8n + 3v the workspace
-// has by rank the blocks in which a variable waits for this one's value: when the value is found, only they can find something new.
-ghost use Rattle.std.specs.Prelude.{◌≡◌, ◌<◌};
-ghost use Rattle.workspace.specs.Map.{Room};
-ghost use Rattle.passes.specs.Visits.{State};
+// Turns of variables, and who waits for whom. The variables stand in 32 blocks by rank. By rank there are the blocks in which a variable waits for this
+// one's value: when the value is found, only they can find something new.
+ghost use Rattle.std.specs.Prelude.{◌≡◌, ◌<◌, ◌^◌, length};
+ghost use Rattle.std.specs.Int.Bits.{bit_or};
 ghost use Rattle.scan.specs.Bits.{bit_at};
+ghost use Rattle.passes.specs.Visits.{reads, SameColumns, Stands};
 ghost use Rattle.passes.specs.Blocks.{marked_at, Turns};
 
-use crate::visits::{Visited, step};
-use scan::column::cell;
+use crate::visits::{Progress, Rules, TooLarge, Visited};
+use scan::column::entry;
 
-// What a turn does: a sum is above the limit; nothing new; a value is found, and these blocks wait for it.
+// A set of blocks: the bits of a word.
 #[derive(Clone, Copy)]
-pub enum Turned {
-    Over,
-    Nothing,
-    Wakes(u32),
-}
+pub struct Blocks(pub u32);
 
-// Bit b of m.
-pub fn has(m: u32, b: u32) -> bool
-    requires { b < 32 }
-    ensures { result ≡ bit_at m b }
-{
-    (m >> b) % 2 == 1
-}
+impl Blocks {
+    // How many blocks there are.
+    pub const COUNT: u32 = 32;
 
-// Block b waits for the variable to which token j refers.
-fn mark(ws: &mut [u32], n: usize, count: usize, v: usize, j: usize, b: u32)
-    requires { Room n count v ws.old × (b < 32) }
-    ensures { ws.new ≡ marked_at n v j b ws.old }
-{
-    let p = cell(ws, 7 * n, n, j);
-    if p < v {
-        let old = ws[8 * n + 3 * v + p];
-        ws[8 * n + 3 * v + p] = old | (1 << b);
+    pub const NONE: Blocks = Blocks(0);
+
+    pub const ALL: Blocks = Blocks(u32::MAX);
+
+    // Whether block b is of the set.
+    pub fn has(self, b: u32) -> bool
+        requires { b < 32 }
+        ensures { result ≡ bit_at self.0 b }
+    {
+        (self.0 >> b) % 2 == 1
+    }
+
+    // The set with block b.
+    pub fn with(self, b: u32) -> Blocks
+        requires { b < 32 }
+        ensures { result.0 ≡ bit_or self.0 (2 ^ b) }
+    {
+        Blocks(self.0 | (1 << b))
+    }
+
+    // The blocks of either set.
+    pub fn union(self, other: Blocks) -> Blocks
+        ensures { result.0 ≡ bit_or self.0 other.0 }
+    {
+        Blocks(self.0 | other.0)
     }
 }
 
-// The turn of variable i, which stands in block b.
-pub fn turn(
-    ws: &mut [u32],
-    pool: &[u8],
-    n: usize,
-    count: usize,
-    v: usize,
-    i: usize,
-    b: u32,
-) -> Turned
-    requires { State n count v pool.now ws.old ws.old × (i < v) × (b < 32) }
-    ensures { State n count v pool.now ws.old ws.new × Turns n count v pool.now ws.old ws.new i b result }
+// Block b waits for the variable to which token j refers.
+fn mark(ranks: &[u32], waiters: &mut [u32], j: usize, b: u32)
+    requires { b < 32 }
+    ensures { waiters.new ≡ marked_at ranks.now j b waiters.old }
 {
-    let r = step(ws, pool, n, count, v, i);
-    match r {
-        Visited::Over => Turned::Over,
-        Visited::Known => Turned::Nothing,
-        Visited::Blocked(j) => {
-            mark(ws, n, count, v, j, b);
-            Turned::Nothing
+    let p = entry(ranks, j);
+    if p < waiters.len() {
+        waiters[p] = Blocks(waiters[p]).with(b).0;
+    }
+}
+
+impl<'a> Progress<'a> {
+    // The turn of variable i, which stands in block b: the blocks that wait for its value, if it is found.
+    pub fn turn(&mut self, rules: Rules, i: usize, b: u32) -> Result<Option<Blocks>, TooLarge>
+        requires { Stands (reads rules) self.old × (length self.old.waiters.now ≡ length rules.keys.now)
+            × (i < length rules.keys.now) × (b < 32) }
+        ensures same { SameColumns self.old self.new }
+        ensures turns { Stands (reads rules.entry) self.new
+            × Turns (reads rules.entry) self.old.lengths.now self.old.stops.now self.old.waiters.now self.new.lengths.now self.new.stops.now self.new.waiters.now i b result }
+        ensures long { length self.new.waiters.now ≡ length self.old.waiters.now }
+    {
+        match self.step(rules, i)? {
+            Visited::Known => Ok(None),
+            Visited::Blocked(j) => {
+                mark(rules.ranks, self.waiters, j, b);
+                Ok(None)
+            }
+            Visited::Valued => Ok(Some(Blocks(self.waiters[i]))),
         }
-        Visited::Valued => Turned::Wakes(ws[8 * n + 3 * v + i]),
     }
 }

@@ -1,126 +1,169 @@
 // The passes on lengths (resolve_variables of upstream): which variables get a value, and how long each is.
 #![tactic(auto)]
 
-ghost use Rattle.std.specs.Prelude.{◌≡◌};
+ghost use Rattle.std.specs.Prelude.{◌≡◌, length, take};
 ghost use Rattle.workspace.specs.Map.{Room};
-ghost use Rattle.passes.specs.Visits.{State};
-ghost use Rattle.passes.specs.Passes.{Turning, Passes, Ready, Runs, kept_of, Resolves};
+ghost use Rattle.passes.specs.Visits.{reads, SameColumns, Stands};
+ghost use Rattle.passes.specs.Passes.{Turning, Passes, Ready, Runs, Clear, Mapped, kept_of, Resolved, Resolves};
 
-use crate::blocks::{Turned, has, turn};
-use crate::visits::{Settled, left};
+use crate::blocks::Blocks;
+use crate::visits::{Progress, Rules, TooLarge, Unresolved};
+use scan::column::column;
 use scan::store::zero_from;
+use tokens::table::Table;
 
 pub mod blocks;
 pub mod sums;
 pub mod visits;
 
-// What a pass does: it stops at this variable, whose value is too large; it finds values, and these blocks wait for them; it finds none.
-#[derive(Clone, Copy)]
-pub enum Passed {
-    Stopped(usize),
-    Found(u32),
-    Idle,
-}
-
 // The answer, and how many passes were made, the last idle one included.
 #[derive(Clone, Copy)]
 pub struct Outcome {
-    pub settled: Settled,
+    pub settled: Result<(), Unresolved>,
     pub passes: usize,
 }
 
-// One pass over all variables in byte order. Of the blocks of w variables only those of `set` are due, and those that wait for a value found:
-// in the others all rest.
-fn pass(ws: &mut [u32], pool: &[u8], n: usize, count: usize, v: usize, w: usize, set: u32) -> Passed
-    requires { Turning n count v w set pool.now ws.old }
-    ensures { State n count v pool.now ws.old ws.new × Passes n count v w pool.now ws.old ws.new result }
-{
-    let mut due = set;
-    let mut next = 0u32;
-    let mut found = false;
-    let mut i = 0;
-    let mut lo = 0;
-    let mut b = 0u32;
-    while i < v {
-        if lo + w <= i {
-            lo += w;
-            b += 1;
-        } else if has(due, b) {
-            let r = turn(ws, pool, n, count, v, i, b);
-            let k = i;
-            i += 1;
-            match r {
-                Turned::Over => {
-                    return Passed::Stopped(k);
-                }
-                Turned::Nothing => {}
-                Turned::Wakes(m) => {
-                    due = due | m;
-                    next = next | m;
-                    found = true;
+impl<'a> Progress<'a> {
+    // One pass over all variables in byte order: the blocks that wait for values found, if any is.
+    // Of the blocks, of `width` variables each, only those of `set` are due, and those that wait for a value found: in the others all rest.
+    fn pass(&mut self, rules: Rules, width: usize, set: Blocks) -> Result<Option<Blocks>, TooLarge>
+        requires { Turning (reads rules) width set.0 self.old.lengths.now self.old.stops.now self.old.sums.now self.old.waiters.now }
+        ensures same { SameColumns self.old self.new }
+        ensures passes { Stands (reads rules.entry) self.new
+            × Passes (reads rules.entry) width self.old.lengths.now self.new.lengths.now self.new.stops.now self.new.waiters.now result }
+        ensures long { length self.new.waiters.now ≡ length self.old.waiters.now }
+    {
+        let v = rules.keys.len();
+        let mut due = set;
+        let mut found: Option<Blocks> = None;
+        for b in 0..Blocks::COUNT {
+            if due.has(b) {
+                let from = b as usize * width;
+                for i in from..(from + width).min(v) {
+                    if let Some(m) = self.turn(rules, i, b)? {
+                        due = due.union(m);
+                        found = Some(found.unwrap_or(Blocks::NONE).union(m));
+                    }
                 }
             }
-        } else {
-            i = lo + w;
         }
+        Ok(found)
     }
-    if found {
-        Passed::Found(next)
-    } else {
-        Passed::Idle
+
+    // Passes until one finds nothing. Each other finds a value, so there are at most v + 1.
+    fn run(&mut self, rules: Rules, width: usize) -> Outcome
+        requires { Ready (reads rules) width self.old.lengths.now self.old.stops.now self.old.sums.now self.old.waiters.now }
+        ensures same { SameColumns self.old self.new }
+        ensures runs { Runs (reads rules.entry) self.new.lengths.now result.settled result.passes }
+    {
+        let mut passes = 0;
+        let mut due = Blocks::ALL;
+        loop {
+            passes += 1;
+            match self.pass(rules, width, due) {
+                Err(TooLarge(i)) => {
+                    return Outcome {
+                        settled: Err(Unresolved::TooLarge(i)),
+                        passes,
+                    };
+                }
+                Ok(None) => {
+                    return Outcome {
+                        settled: self.left(rules),
+                        passes,
+                    };
+                }
+                Ok(Some(m)) => {
+                    due = m;
+                }
+            }
+        }
     }
 }
 
-// Passes until one finds nothing. Each other finds a value, so there are at most v + 1.
-fn run(ws: &mut [u32], pool: &[u8], n: usize, count: usize, v: usize, w: usize) -> Outcome
-    requires { Ready n count v w pool.now ws.old }
-    ensures { Runs n count v pool.now ws.old ws.new result.settled result.passes }
+// The passes in four columns, which are clear, as one value.
+fn run_by(
+    rules: Rules,
+    lengths: &mut [u32],
+    stops: &mut [u32],
+    sums: &mut [u32],
+    waiters: &mut [u32],
+    width: usize,
+) -> Outcome
+    requires { Ready (reads rules) width lengths.old stops.old sums.old waiters.old }
+    ensures { Runs (reads rules.entry) lengths.new result.settled result.passes }
 {
-    let mut passes = 0;
-    let mut due = 4294967295u32;
-    loop {
-        let r = pass(ws, pool, n, count, v, w, due);
-        passes += 1;
-        match r {
-            Passed::Stopped(i) => {
-                return Outcome {
-                    settled: Settled::TooLarge(i),
-                    passes,
-                };
-            }
-            Passed::Found(m) => {
-                due = m;
-            }
-            Passed::Idle => {
-                return Outcome {
-                    settled: left(ws, pool, n, count, v),
-                    passes,
-                };
-            }
-        }
-    }
+    let mut progress = Progress {
+        lengths,
+        stops,
+        sums,
+        waiters,
+    };
+    progress.run(rules, width)
+}
+
+// The passes in four columns of v entries, which are clear: the lengths, where sums stopped, the sums, and who waits.
+fn run_in(rules: Rules, v: usize, columns: &mut [u32]) -> Outcome
+    requires { Clear (reads rules) v columns.old }
+    ensures { Runs (reads rules.entry) (take v columns.new) result.settled result.passes }
+{
+    let (lengths, rest) = columns.split_at_mut(v);
+    let (stops, rest) = rest.split_at_mut(v);
+    let (sums, waiters) = rest.split_at_mut(v);
+    run_by(
+        rules,
+        lengths,
+        stops,
+        sums,
+        waiters,
+        v / Blocks::COUNT as usize + 1,
+    )
 }
 
 // How many lengths stay.
-fn kept(settled: Settled, v: usize) -> usize
+fn kept(settled: Result<(), Unresolved>, v: usize) -> usize
     ensures { result ≡ kept_of settled v }
 {
     match settled {
-        Settled::Resolved => v,
-        Settled::TooLarge(_) => 0,
-        Settled::Lacks(_, _) => 0,
+        Ok(()) => v,
+        Err(_) => 0,
     }
 }
 
+// The passes over the map of the variables, in columns that are cleared before; of all that they write the lengths stay, where all variables have values.
+fn resolve_in(
+    map: &[u32],
+    pool: &[u8],
+    n: usize,
+    count: usize,
+    v: usize,
+    columns: &mut [u32],
+) -> Outcome
+    requires { Mapped n count v map.now columns.old }
+    ensures { Resolved n count v pool.now map.now columns.new result.settled result.passes }
+{
+    let tokens = Table::new(map, pool, count);
+    let rules = Rules {
+        tokens: &tokens,
+        ranks: column(map, 7 * n, n),
+        keys: column(map, 4 * n, v),
+        starts: column(map, 5 * n, n),
+        ends: column(map, 6 * n, n),
+    };
+    zero_from(columns, 0, 4 * v);
+    let outcome = run_in(rules, v, columns);
+    let stay = kept(outcome.settled, v);
+    zero_from(columns, stay, 4 * v - stay);
+    outcome
+}
+
 // The lengths of all variables' values, or why there are none. All else in the columns that it uses becomes 0.
+// Kept: the five arguments are those of its contract, `Resolves`, and of the stages beside it.
 pub fn resolve_variables(ws: &mut [u32], pool: &[u8], n: usize, count: usize, v: usize) -> Outcome
     requires { Room n count v ws.old }
     ensures { Resolves n count v pool.now ws.old ws.new result.settled result.passes }
 {
-    zero_from(ws, 8 * n, 4 * v);
-    let outcome = run(ws, pool, n, count, v, v / 32 + 1);
-    let settled = outcome.settled;
-    let k = kept(settled, v);
-    zero_from(ws, 8 * n + k, 4 * v - k);
-    outcome
+    let (map, rest) = ws.split_at_mut(8 * n);
+    let (columns, _beyond) = rest.split_at_mut(4 * v);
+    resolve_in(map, pool, n, count, v, columns)
 }

@@ -1,12 +1,12 @@
 // Sums of tokens: what a range of tokens comes to in bytes, once references have their values. For variables, string fields and list arguments alike.
 ghost use Rattle.std.specs.Prelude.{◌≡◌, ◌≤◌, ◌-◌};
-ghost use Rattle.workspace.specs.Map.{Room};
-ghost use Rattle.passes.specs.Sums.{top, size_at, advance};
+ghost use Rattle.passes.specs.Sums.{top, size_in, added, advance};
 
-use scan::column::cell;
-use tokens::{TokenKind, kind_at, length_at};
+use scan::column::entry;
+use tokens::TokenKind;
+use tokens::table::Table;
 
-// MAX_TEMPLATE_SIZE of upstream.
+// MAX_TEMPLATE_SIZE of upstream. Kept: the limits belong to named types as constants (docs/PROMISES.md).
 #[derive(Clone, Copy)]
 pub struct Limit;
 
@@ -14,55 +14,54 @@ impl Limit {
     pub const VALUE: usize = 67108864;
 }
 
-// How far a sum came: above the limit; up to this token, which refers to no value, with the sum of those before it; or to the end.
+// Why a sum stops.
 #[derive(Clone, Copy)]
-pub enum Advance {
+pub enum Stop {
+    // It would be above the limit.
     Over,
+    // This token refers to no value; the sum of those before it.
     Missing(usize, usize),
-    Sum(usize),
 }
 
-// One more than what token j adds; 0 where it refers to no value. A token that was dropped adds nothing.
-pub fn size_at(ws: &[u32], pool: &[u8], n: usize, count: usize, v: usize, j: usize) -> usize
-    requires { Room n count v ws.now }
-    ensures { result ≡ size_at n count v ws.now pool.now j }
-{
-    let kind = kind_at(ws, count, j);
-    if kind == TokenKind::DROPPED {
-        return 1;
-    }
-    if kind == TokenKind::VARIABLE {
-        return cell(ws, 8 * n, v, cell(ws, 7 * n, n, j));
-    }
-    length_at(ws, pool, count, j) + 1
+// What sums read: the tokens; by token the rank of the variable that it refers to; by rank the length of the value + 1, 0 for none.
+#[derive(Clone, Copy)]
+pub struct View<'a> {
+    pub tokens: &'a Table<'a>,
+    pub ranks: &'a [u32],
+    pub lengths: &'a [u32],
 }
 
-// Goes on with the sum s at token `from`, up to, not with, token `to`.
-pub fn sum_on(
-    ws: &[u32],
-    pool: &[u8],
-    n: usize,
-    count: usize,
-    v: usize,
-    from: usize,
-    to: usize,
-    s: usize,
-) -> Advance
-    requires { Room n count v ws.now × (s ≤ top) }
-    ensures { result ≡ advance (size_at n count v ws.now pool.now) from s (to - from) }
-{
-    let mut k = from;
-    let mut sum = s;
-    while k < to {
-        let size = size_at(ws, pool, n, count, v, k);
-        if size == 0 {
-            return Advance::Missing(k, sum);
+impl<'a> View<'a> {
+    // What token j adds; none where it refers to no value. A token that was dropped adds nothing.
+    #[tactic(auto, using(crate::proofs::SumLaws::sizes))]
+    pub fn size_at(self, j: usize) -> Option<usize>
+        ensures { result ≡ added (size_in self.entry.tokens.now self.entry.ranks.now self.entry.lengths.now j) }
+    {
+        let kind = self.tokens.kind(j);
+        if kind == TokenKind::Dropped as u32 {
+            return Some(0);
         }
-        if Limit::VALUE - sum < size - 1 {
-            return Advance::Over;
+        if kind == TokenKind::Variable as u32 {
+            return entry(self.lengths, entry(self.ranks, j)).checked_sub(1);
         }
-        sum += size - 1;
-        k += 1;
+        Some(self.tokens.text_len(j))
     }
-    Advance::Sum(sum)
+
+    // Goes on with the sum s at token `from`, up to, not with, token `to`.
+    pub fn sum_on(self, from: usize, to: usize, s: usize) -> Result<usize, Stop>
+        requires { s ≤ top }
+        ensures { result ≡ advance (size_in self.entry.tokens.now self.entry.ranks.now self.entry.lengths.now) from s (to - from) }
+    {
+        let mut sum = s;
+        for k in from..to {
+            let Some(size) = self.size_at(k) else {
+                return Err(Stop::Missing(k, sum));
+            };
+            if Limit::VALUE - sum < size {
+                return Err(Stop::Over);
+            }
+            sum += size;
+        }
+        Ok(sum)
+    }
 }

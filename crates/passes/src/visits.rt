@@ -1,103 +1,138 @@
 // Visits of variables, by rank. A visit of one that lacks a value goes on where the last one stopped, so a visit that finds nothing new is cheap.
-// By rank the workspace has at 8n the length of the value + 1 (0 for none yet), at 8n + v the token at which the sum stopped + 1 (0 before the first visit),
-// and at 8n + 2v the sum up to there.
-ghost use Rattle.std.specs.Prelude.{◌≡◌, ◌<◌, get_or};
+ghost use Rattle.std.specs.Prelude.{◌≡◌, ◌<◌, ◌==◌, length, get_or, position};
 ghost use Rattle.rules.proofs.Lengths.{left_lens, lacking_lens};
-ghost use Rattle.tokens.specs.Entries.{decode, token_at};
-ghost use Rattle.workspace.specs.Map.{rules_in, lengths_of};
-ghost use Rattle.passes.specs.Visits.{State, advance_in, rule, Visits, Steps, Beyond, Lacking, Stuck, meaning};
+ghost use Rattle.tokens.specs.Entries.{token_at};
+ghost use Rattle.passes.specs.Visits.{reads, rules_of, rule, SameColumns, Stands, advance_in, Visits, Steps, Lacking, Stuck, said};
 
-use crate::sums::{Advance, sum_on};
-use scan::column::cell;
+use crate::sums::{Stop, View};
+use scan::column::entry;
+use tokens::table::Table;
 
-// What a turn finds: a sum above the limit; a value that was there; a value that lacks, at this token; a new value.
+// What the passes read: the tokens; by token the rank of the variable that it refers to; by rank the variable's key token; by key token the value's first
+// token, and the token past it.
+#[derive(Clone, Copy)]
+pub struct Rules<'a> {
+    pub tokens: &'a Table<'a>,
+    pub ranks: &'a [u32],
+    pub keys: &'a [u32],
+    pub starts: &'a [u32],
+    pub ends: &'a [u32],
+}
+
+// What the passes write, by rank: the length of the value + 1, 0 for none yet; the token at which the sum stopped + 1, 0 before the first visit; the sum up to
+// there; and the blocks in which a variable waits for the value.
+#[derive(Drop)]
+pub struct Progress<'a> {
+    pub lengths: &'a mut [u32],
+    pub stops: &'a mut [u32],
+    pub sums: &'a mut [u32],
+    pub waiters: &'a mut [u32],
+}
+
+// What a turn finds.
 #[derive(Clone, Copy)]
 pub enum Visited {
-    Over,
+    // A value that was there.
     Known,
+    // The value lacks, at this token.
     Blocked(usize),
+    // A new value.
     Valued,
 }
 
-// All variables have values; or the value of this one is too large; or this one, the smallest without a value, lacks one at this token.
+// The variable of this rank has a value that is too large.
 #[derive(Clone, Copy)]
-pub enum Settled {
-    Resolved,
+pub struct TooLarge(pub usize);
+
+// Why not all variables have values.
+#[derive(Clone, Copy)]
+pub enum Unresolved {
+    // The value of the variable of this rank is too large.
     TooLarge(usize),
+    // The variable of this rank, the smallest without a value, lacks one at this token.
     Lacks(usize, usize),
 }
 
-// Goes on with the sum of variable i.
-fn resume(ws: &[u32], pool: &[u8], n: usize, count: usize, v: usize, i: usize) -> Advance
-    requires { State n count v pool.now ws.now ws.now × (i < v) }
-    ensures { result ≡ advance_in n count v ws.now pool.now i }
-{
-    let key = cell(ws, 4 * n, v, i);
-    let to = cell(ws, 6 * n, n, key);
-    let stop = cell(ws, 8 * n + v, v, i);
-    let sum = cell(ws, 8 * n + 2 * v, v, i);
-    if stop == 0 {
-        let from = cell(ws, 5 * n, n, key);
-        return sum_on(ws, pool, n, count, v, from, to, sum);
+impl<'a> Progress<'a> {
+    // Goes on with the sum of variable i.
+    fn resume(&self, rules: Rules, i: usize) -> Result<usize, Stop>
+        requires { Stands (reads rules) self.now × (i < length rules.keys.now) }
+        ensures { result ≡ advance_in (reads rules.entry) self.now.lengths.now self.now.stops.now self.now.sums.now i }
+    {
+        let key = entry(rules.keys, i);
+        let start = entry(rules.starts, key);
+        let from = entry(self.stops, i).checked_sub(1).unwrap_or(start);
+        let view = View {
+            tokens: rules.tokens,
+            ranks: rules.ranks,
+            lengths: &self.lengths,
+        };
+        view.sum_on(from, entry(rules.ends, key), entry(self.sums, i))
     }
-    sum_on(ws, pool, n, count, v, stop - 1, to, sum)
-}
 
-// Visits variable i, which has no value yet.
-fn visit(ws: &mut [u32], pool: &[u8], n: usize, count: usize, v: usize, i: usize) -> Visited
-    requires { State n count v pool.now ws.old ws.old × (i < v) × (get_or (lengths_of n v ws.old) i 0 ≡ 0) }
-    ensures { State n count v pool.now ws.old ws.new × Visits n count v pool.now ws.old ws.new i result × Beyond n v ws.old ws.new }
-{
-    let a = resume(ws, pool, n, count, v, i);
-    match a {
-        Advance::Over => Visited::Over,
-        Advance::Missing(j, sum) => {
-            ws[8 * n + v + i] = (j + 1) as u32;
-            ws[8 * n + 2 * v + i] = sum as u32;
-            Visited::Blocked(j)
+    // Visits variable i, which has no value yet.
+    fn visit(&mut self, rules: Rules, i: usize) -> Result<Visited, TooLarge>
+        requires { Stands (reads rules) self.old × (i < length rules.keys.now) × (get_or self.old.lengths.now i 0 ≡ 0) }
+        ensures same { SameColumns self.old self.new }
+        ensures same_waiters { self.new.waiters.now ≡ self.old.waiters.now }
+        ensures visits { Stands (reads rules.entry) self.new
+            × Visits (reads rules.entry) self.old.lengths.now self.old.stops.now self.new.lengths.now self.new.stops.now i result }
+    {
+        match self.resume(rules, i) {
+            Ok(sum) => {
+                self.lengths[i] = (sum + 1) as u32;
+                Ok(Visited::Valued)
+            }
+            Err(Stop::Missing(j, sum)) => {
+                self.stops[i] = (j + 1) as u32;
+                self.sums[i] = sum as u32;
+                Ok(Visited::Blocked(j))
+            }
+            Err(Stop::Over) => Err(TooLarge(i)),
         }
-        Advance::Sum(sum) => {
-            ws[8 * n + i] = (sum + 1) as u32;
-            Visited::Valued
+    }
+
+    // Variable i's turn in a pass.
+    pub fn step(&mut self, rules: Rules, i: usize) -> Result<Visited, TooLarge>
+        requires { Stands (reads rules) self.old × (i < length rules.keys.now) }
+        ensures same { SameColumns self.old self.new }
+        ensures same_waiters { self.new.waiters.now ≡ self.old.waiters.now }
+        ensures steps { Stands (reads rules.entry) self.new
+            × Steps (reads rules.entry) self.old.lengths.now self.old.stops.now self.new.lengths.now self.new.stops.now i result }
+    {
+        if self.lengths[i] == 0 {
+            return self.visit(rules, i);
+        }
+        Ok(Visited::Known)
+    }
+
+    // The token of variable i's first reference without a value.
+    fn lacking(&self, rules: Rules, i: usize) -> usize
+        requires { Stands (reads rules) self.now × (i < length rules.keys.now) × Lacking (reads rules) self.now.lengths.now i }
+        ensures { lacking_lens self.now.lengths.now (rule (reads rules.entry) i) ≡ token_at rules.entry.tokens.now result }
+    {
+        match self.resume(rules, i) {
+            Err(Stop::Missing(j, _)) => j,
+            Err(Stop::Over) => unreachable!(),
+            Ok(_) => unreachable!(),
+        }
+    }
+
+    // Whether all variables have values; else the smallest name left.
+    pub fn left(&self, rules: Rules) -> Result<(), Unresolved>
+        requires { Stands (reads rules) self.now × Stuck (reads rules) self.now.lengths.now }
+        ensures { said rules.entry.tokens.now self.now.lengths.now result ≡ left_lens 0 (rules_of (reads rules.entry)) self.now.lengths.now }
+    {
+        match first_without(self.lengths) {
+            None => Ok(()),
+            Some(i) => Err(Unresolved::Lacks(i, self.lacking(rules, i))),
         }
     }
 }
 
-// Variable i's turn in a pass.
-pub fn step(ws: &mut [u32], pool: &[u8], n: usize, count: usize, v: usize, i: usize) -> Visited
-    requires { State n count v pool.now ws.old ws.old × (i < v) }
-    ensures { State n count v pool.now ws.old ws.new × Steps n count v pool.now ws.old ws.new i result × Beyond n v ws.old ws.new }
+// The smallest rank without a value.
+fn first_without(lengths: &[u32]) -> Option<usize>
+    ensures { result ≡ position (λ x. x == 0) lengths.now }
 {
-    if cell(ws, 8 * n, v, i) == 0 {
-        return visit(ws, pool, n, count, v, i);
-    }
-    Visited::Known
-}
-
-// The token of variable i's first reference without a value.
-fn lacking(ws: &[u32], pool: &[u8], n: usize, count: usize, v: usize, i: usize) -> usize
-    requires { State n count v pool.now ws.now ws.now × (i < v) × Lacking n count v pool.now ws.now i }
-    ensures { lacking_lens (lengths_of n v ws.now) (rule n count v ws.now pool.now i) ≡ token_at (decode count ws.now pool.now) result }
-{
-    let a = resume(ws, pool, n, count, v, i);
-    match a {
-        Advance::Over => 0,
-        Advance::Missing(j, sum) => j,
-        Advance::Sum(sum) => 0,
-    }
-}
-
-// The smallest name left, or none.
-pub fn left(ws: &[u32], pool: &[u8], n: usize, count: usize, v: usize) -> Settled
-    requires { State n count v pool.now ws.now ws.now × Stuck n count v v pool.now ws.now (lengths_of n v ws.now) }
-    ensures { meaning n count v ws.now pool.now result ≡ left_lens 0 (rules_in n count v ws.now pool.now) (lengths_of n v ws.now) }
-{
-    let mut i = 0;
-    while i < v {
-        if cell(ws, 8 * n, v, i) == 0 {
-            return Settled::Lacks(i, lacking(ws, pool, n, count, v, i));
-        }
-        i += 1;
-    }
-    Settled::Resolved
+    lengths.iter().position(|l| *l == 0)
 }

@@ -1,12 +1,13 @@
 -- Laws of the call: each of the five ways that it can go. Assumes nothing.
+use Rattle.std.specs.Prelude as Std
+use Rattle.std.specs.Prelude.{Ok, Err}
 use Prim.Native.Nat.{ℕ, ◌+◌, ◌*◌, ◌<◌, ◌≤◌}
-use mathlib.Core.Path.{◌≡◌, refl, ap, sym, ◌∙◌, subst}
+use mathlib.Core.Path.{◌≡◌, refl, ap, sym, ◌∙◌}
 use mathlib.Core.Bool.{Bool, true, false}
 use mathlib.Core.List.{List}
 use lib.ListN.{length, drop, replicate, length-replicate}
 use lib.Dec.{ltb}
 use Rattle.rules.specs.Bytes.{overwrite}
-use Rattle.rules.specs.Tokens.{token, no_name}
 use Rattle.rules.specs.Numbers as Rules
 use Rattle.rules.specs.Numbers.{number, detail, no_detail, details, Result, refused, ok}
 use Rattle.rules.specs.Utf8.{well_formed}
@@ -15,33 +16,18 @@ use Rattle.rules.specs.Reader as Reader
 use Rattle.rules.specs.Reader.{Buffers, room, read_buffers, zeroed, written, untouched}
 use Rattle.rules.proofs.CallLaws.{read-long, read-space, read-pool, read-utf8, read-on}
 use Rattle.scan.proofs.Stores.{overwrite-cover}
-use Rattle.answers.specs.declared.Number.{Number}
-use Rattle.answers.specs.declared.Number.TheVariants as N
-use Rattle.answers.specs.declared.Name.{Name}
-use Rattle.answers.specs.declared.Answer.{Answer}
-use Rattle.answers.specs.Tells.{number_of, Names, Tells}
+use Rattle.answers.specs.declared.Refusal as Answers
+use Rattle.answers.specs.declared.Refusal.TheVariants as Told
+use Rattle.answers.specs.Tells.{number_of, Tells}
+use Rattle.answers.specs.Refusals as Ours
+use Rattle.answers.specs.Refusals.{Refuses, refusal_answer, answer_of}
+use Rattle.answers.proofs.Telling.{no-names}
 use Rattle.pkg_config.specs.Call.{lent, Reads, ReadsText}
 
-abbrev pub no_name_of : Name
-no_name_of = record { place = 0; length = 0 }
-
--- a number with nothing else
-abbrev pub bare_of : Number → Answer
-bare_of k = record { number = k; detail = record { value = 0; first = no_name_of; second = no_name_of } }
-
-pub no_names : Names no_name_of no_name
-unfolding no_name token
-no_names = record { is_place = refl; is_length = refl }
-
 -- where the document's answer has no detail
-bare-tells : (k : Number) (a : Rules.Answer) → number_of k ≡ number a → detail a ≡ no_detail → Tells (bare_of k) a
+bare-tells : (e : Answers.Refusal) (a : Rules.Answer) → number_of (Ours.refusal_number e) ≡ number a → Ours.refusal_detail e ≡ Ours.details 0 Ours.no_name Ours.no_name → detail a ≡ no_detail → Tells (refusal_answer e) a
 unfolding no_detail details
-bare-tells k a e d = record {
-  is_number = e;
-  is_value = sym (ap (λ (x : Rules.Detail). x.value) d);
-  is_first = subst (λ (x : Rules.Detail). Names no_name_of x.first) (sym d) no_names;
-  is_second = subst (λ (x : Rules.Detail). Names no_name_of x.second) (sym d) no_names;
-}
+bare-tells e a m d x = record { is_number = m; is_value = rw (d, x) refl; is_first = rw (d, x) no-names; is_second = rw (d, x) no-names }
 
 -- what the output and the answer are turns on the output alone
 pub same_answer : (x : Result (List ℕ)) (c d : Buffers) → c.output ≡ d.output → ((written x c).answer ≡ (written x d).answer) × ((written x c).after.output ≡ (written x d).after.output)
@@ -55,32 +41,32 @@ same_answer (ok rs) c d e = go (ltb (length d.output) (length rs)) refl
 
 module _ (text ws pool out : List ℕ) where
   -- all as it was
-  as-found : (r : Answer) (k : Number) (a : Rules.Answer) → Reader.read text (lent ws pool out) ≡ untouched a (lent ws pool out) → r ≡ bare_of k → number_of k ≡ number a → detail a ≡ no_detail
-      → Reads text ws pool out ws pool out r
+  as-found : (e : Answers.Refusal) (a : Rules.Answer) → Reader.read text (lent ws pool out) ≡ untouched a (lent ws pool out) → number_of (Ours.refusal_number e) ≡ number a
+      → Ours.refusal_detail e ≡ Ours.details 0 Ours.no_name Ours.no_name → detail a ≡ no_detail → Reads text ws pool out ws pool out (Err e)
   unfolding untouched
-  as-found r k a e q m d = record {
-    is_answer = rw (q, e) (bare-tells k a m d);
-    is_workspace = rw e refl;
-    is_pool = rw e refl;
-    is_output = rw e refl;
+  as-found e a q m x d = record {
+    is_answer = rw q (bare-tells e a m x d);
+    is_workspace = rw q refl;
+    is_pool = rw q refl;
+    is_output = rw q refl;
   }
 
-  pub too_long : (r : Answer) → 65535 < length text → r ≡ bare_of N.TooLong → Reads text ws pool out ws pool out r
+  pub too_long : 65535 < length text → Reads text ws pool out ws pool out (Err Told.TooLong)
   unfolding number detail
-  too_long r h q = as-found r N.TooLong Rules.too_long (read-long text (lent ws pool out) h) q refl refl
+  too_long h = as-found Told.TooLong Rules.too_long (read-long text (lent ws pool out) h) refl refl refl
 
-  pub workspace-short : (r : Answer) → length text ≤ 65535 → length ws < 12 * length text + 64 → r ≡ bare_of N.WorkspaceShort → Reads text ws pool out ws pool out r
+  pub workspace-short : length text ≤ 65535 → length ws < 12 * length text + 64 → Reads text ws pool out ws pool out (Err Told.WorkspaceShort)
   unfolding number detail room
-  workspace-short r s h q = as-found r N.WorkspaceShort Rules.workspace_short (read-space text (lent ws pool out) s h) q refl refl
+  workspace-short s h = as-found Told.WorkspaceShort Rules.workspace_short (read-space text (lent ws pool out) s h) refl refl refl
 
-  pub pool-short : (r : Answer) → length text ≤ 65535 → 12 * length text + 64 ≤ length ws → length pool < length text → r ≡ bare_of N.PoolShort → Reads text ws pool out ws pool out r
+  pub pool-short : length text ≤ 65535 → 12 * length text + 64 ≤ length ws → length pool < length text → Reads text ws pool out ws pool out (Err Told.PoolShort)
   unfolding number detail room
-  pool-short r s w h q = as-found r N.PoolShort Rules.pool_short (read-pool text (lent ws pool out) s w h) q refl refl
+  pool-short s w h = as-found Told.PoolShort Rules.pool_short (read-pool text (lent ws pool out) s w h) refl refl refl
 
-  pub not-utf8 : (r : Answer) (u : Bool) → length text ≤ 65535 → 12 * length text + 64 ≤ length ws → length text ≤ length pool → u ≡ well_formed text → u ≡ false
-      → r ≡ bare_of N.NotUtf8 → Reads text ws pool out ws pool out r
+  pub not-utf8 : (u : Bool) → length text ≤ 65535 → 12 * length text + 64 ≤ length ws → length text ≤ length pool → u ≡ well_formed text → u ≡ false
+      → Reads text ws pool out ws pool out (Err Told.NotUtf8)
   unfolding number detail room
-  not-utf8 r u s w p e f q = as-found r N.NotUtf8 Rules.not_utf8 (read-utf8 text (lent ws pool out) s w p (sym e ∙ f)) q refl refl
+  not-utf8 u s w p e f = as-found Told.NotUtf8 Rules.not_utf8 (read-utf8 text (lent ws pool out) s w p (sym e ∙ f)) refl refl refl
 
   kept : (x : Result (List ℕ)) (c : Buffers) → ((written x c).after.workspace ≡ c.workspace) × ((written x c).after.pool ≡ c.pool)
   unfolding written
@@ -92,7 +78,7 @@ module _ (text ws pool out : List ℕ) where
       go false q = rw (q, written) (refl, refl)
 
   -- the text is read, and the workspace zeroed
-  pub was_read : (r : Answer) (u : Bool) (ws₁ ws₂ pool' out' : List ℕ) → length text ≤ 65535 → 12 * length text + 64 ≤ length ws → length text ≤ length pool → u ≡ well_formed text → u ≡ true
+  pub was_read : (r : Std.Result ℕ Answers.Refusal) (u : Bool) (ws₁ ws₂ pool' out' : List ℕ) → length text ≤ 65535 → 12 * length text + 64 ≤ length ws → length text ≤ length pool → u ≡ well_formed text → u ≡ true
       → ReadsText text ws pool out ws₁ pool' out' r → ws₂ ≡ overwrite (replicate (12 * length text + 64) 0) ws₁ → Reads text ws pool out ws₂ pool' out' r
   unfolding read_buffers zeroed room
   was_read r u ws₁ ws₂ pool' out' s w p e f h z =

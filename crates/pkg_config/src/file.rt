@@ -1,68 +1,67 @@
 // From the file that the workspace holds to its records (document 01, "Variables, then fields"; upstream's resolve).
-ghost use Rattle.std.specs.Prelude.{◌≡◌, ◌+◌, ◌*◌, ◌≤◌, length};
+ghost use Rattle.std.specs.Prelude.{◌≡◌};
+ghost use Rattle.rules.specs.Tokens.{Token};
 ghost use Rattle.rules.specs.Variables.{key_at};
 ghost use Rattle.rules.specs.Reading.{records_of_file};
 ghost use Rattle.rules.proofs.RefusalLaws.{after_variables};
 ghost use Rattle.answers.specs.Tells.{Names};
-ghost use Rattle.tokens.specs.Entries.{decode, token_at};
-ghost use Rattle.workspace.specs.Map.{Room, variables_in, file_in};
+ghost use Rattle.answers.specs.Refusals.{Refuses};
+ghost use Rattle.tokens.specs.Entries.{decode};
+ghost use Rattle.workspace.specs.Map.{Room, keys_of, file_in};
+ghost use Rattle.names.specs.Named.{named};
 ghost use Rattle.writer.specs.Tables.{tables_in};
 ghost use Rattle.pkg_config.specs.Call.{Ends};
-ghost use Rattle.pkg_config.specs.Stages.{Filed, Solved, Measures};
+ghost use Rattle.pkg_config.specs.Stages.{Filed, Solved, Measures, unresolved, stopped};
 
-use answers::{Answer, Detail, Name, Number};
+use answers::{Name, Refusal};
 use names::look_up;
 use passes::resolve_variables;
-use passes::visits::Settled;
-use records::measure::{Measured, measure};
+use passes::visits::Unresolved;
+use records::measure::{Stop, measure};
 use records::write::write_fields;
-use scan::column::cell;
-use tokens::{length_at, place_at};
+use scan::column::column;
+use tokens::table::Table;
+use writer::columns::Layout;
 
-pub fn no_name() -> Name
-    ensures { result ≡ record { place = 0; length = 0 } }
+// What is shown of the key of the variable of rank i.
+fn key_name(tokens: &Table, keys: &[u32], i: usize) -> Name
+    ensures { Names result (key_at (named tokens.now keys.now) i) }
 {
-    Name {
-        place: 0,
-        length: 0,
+    if keys.len() <= i {
+        return Name::NONE;
+    }
+    tokens.name(keys[i] as usize)
+}
+
+// 15 or 16 of a variable.
+fn variable_refusal(tokens: &Table, keys: &[u32], why: Unresolved) -> Refusal
+    ensures { Refuses result (unresolved tokens.now (named tokens.now keys.now) why) }
+{
+    match why {
+        Unresolved::TooLarge(i) => Refusal::ContentTooLarge(0, key_name(tokens, keys, i)),
+        Unresolved::Lacks(i, j) => {
+            Refusal::UndefinedVariable(0, tokens.name(j), key_name(tokens, keys, i))
+        }
     }
 }
 
-pub fn answer(number: Number, value: u64, first: Name, second: Name) -> Answer
-    ensures { result ≡ record { number = number; detail = record { value = value; first = first; second = second } } }
+// The same by the workspace.
+fn refusal_in(ws: &[u32], pool: &[u8], layout: Layout, why: Unresolved) -> Refusal
+    requires { Room layout.n layout.count layout.v ws.now }
+    ensures { Refuses result (unresolved (decode layout.count ws.now pool.now) (named (decode layout.count ws.now pool.now) (keys_of layout.n layout.v ws.now)) why) }
 {
-    Answer {
-        number: number,
-        detail: Detail {
-            value: value,
-            first: first,
-            second: second,
-        },
-    }
+    let Layout { n, count, v } = layout;
+    variable_refusal(&Table::new(ws, pool, count), column(ws, 4 * n, v), why)
 }
 
-// The name that token j is: its own place, and its length.
-fn name_of(ws: &[u32], pool: &[u8], count: usize, j: usize) -> Name
-    requires { 4 * count ≤ length ws.now }
-    ensures { Names result (token_at (decode count ws.now pool.now) j) }
+// 15 or 16 of a field.
+fn field_refusal(tokens: &Table, why: Stop) -> Refusal
+    ensures { (key : Token) → Refuses result (stopped tokens.now key why) }
 {
-    let len = length_at(ws, pool, count, j);
-    Name {
-        place: place_at(ws, count, j),
-        length: len as u32,
+    match why {
+        Stop::Undefined(f, j) => Refusal::UndefinedVariable(f, tokens.name(j), Name::NONE),
+        Stop::TooLarge(f) => Refusal::ContentTooLarge(f, Name::NONE),
     }
-}
-
-// The key of the variable of rank i.
-fn key_name(ws: &[u32], pool: &[u8], n: usize, count: usize, v: usize, i: usize) -> Name
-    requires { Room n count v ws.now }
-    ensures { Names result (key_at (variables_in n count v ws.now pool.now) i) }
-{
-    if i < v {
-        let k = cell(ws, 4 * n, v, i);
-        return name_of(ws, pool, count, k);
-    }
-    no_name()
 }
 
 // The records, where the output has room for all of them.
@@ -70,21 +69,19 @@ fn write_records(
     ws: &mut [u32],
     pool: &[u8],
     output: &mut [u8],
-    n: usize,
-    count: usize,
-    v: usize,
+    layout: Layout,
     need: u64,
-) -> Answer
-    requires { Measures n count v need ws.old pool.now }
-    ensures { Ends n (after_variables (file_in n count v ws.old pool.now) (tables_in n count v ws.old pool.now).values)
+) -> Result<u64, Refusal>
+    requires { Measures layout.n layout.count layout.v need ws.old pool.now }
+    ensures { Ends layout.n (after_variables (file_in layout.n layout.count layout.v ws.old pool.now) (tables_in layout.n layout.count layout.v ws.old pool.now).values)
         ws.old output.old ws.new output.new result }
 {
     let room = output.len() as u64;
     if room < need {
-        return answer(Number::OutputShort, need, no_name(), no_name());
+        return Err(Refusal::OutputShort(need));
     }
-    write_fields(ws, pool, output, n, count, v);
-    answer(Number::Accepted, need, no_name(), no_name())
+    write_fields(ws, pool, output, layout.n, layout.count, layout.v);
+    Ok(need)
 }
 
 // The fields by number, or the first of them that is refused.
@@ -92,22 +89,15 @@ fn resolve_fields(
     ws: &mut [u32],
     pool: &[u8],
     output: &mut [u8],
-    n: usize,
-    count: usize,
-    v: usize,
-) -> Answer
-    requires { Solved n count v ws.old pool.now }
-    ensures { Ends n (after_variables (file_in n count v ws.old pool.now) (tables_in n count v ws.old pool.now).values)
+    layout: Layout,
+) -> Result<u64, Refusal>
+    requires { Solved layout.n layout.count layout.v ws.old pool.now }
+    ensures { Ends layout.n (after_variables (file_in layout.n layout.count layout.v ws.old pool.now) (tables_in layout.n layout.count layout.v ws.old pool.now).values)
         ws.old output.old ws.new output.new result }
 {
-    let m = measure(ws, pool, n, count, v);
-    match m {
-        Measured::Need(need) => write_records(ws, pool, output, n, count, v, need),
-        Measured::Undefined(f, j) => {
-            let reference = name_of(ws, pool, count, j);
-            answer(Number::UndefinedVariable, f as u64, reference, no_name())
-        }
-        Measured::TooLarge(f) => answer(Number::ContentTooLarge, f as u64, no_name(), no_name()),
+    match measure(ws, pool, layout.n, layout.count, layout.v) {
+        Ok(bytes) => write_records(ws, pool, output, layout, bytes),
+        Err(why) => Err(field_refusal(&Table::new(ws, pool, layout.count), why)),
     }
 }
 
@@ -116,26 +106,15 @@ pub fn resolve_file(
     ws: &mut [u32],
     pool: &[u8],
     output: &mut [u8],
-    n: usize,
-    count: usize,
-    v: usize,
-) -> Answer
-    requires { Filed n count v ws.old pool.now }
-    ensures { Ends n (records_of_file (file_in n count v ws.old pool.now)) ws.old output.old ws.new output.new result }
+    layout: Layout,
+) -> Result<u64, Refusal>
+    requires { Filed layout.n layout.count layout.v ws.old pool.now }
+    ensures { Ends layout.n (records_of_file (file_in layout.n layout.count layout.v ws.old pool.now)) ws.old output.old ws.new output.new result }
 {
+    let Layout { n, count, v } = layout;
     look_up(ws, pool, n, count, v);
-    let outcome = resolve_variables(ws, pool, n, count, v);
-    let settled = outcome.settled;
-    match settled {
-        Settled::Resolved => resolve_fields(ws, pool, output, n, count, v),
-        Settled::TooLarge(i) => {
-            let key = key_name(ws, pool, n, count, v, i);
-            answer(Number::ContentTooLarge, 0, no_name(), key)
-        }
-        Settled::Lacks(i, j) => {
-            let reference = name_of(ws, pool, count, j);
-            let key = key_name(ws, pool, n, count, v, i);
-            answer(Number::UndefinedVariable, 0, reference, key)
-        }
+    match resolve_variables(ws, pool, n, count, v).settled {
+        Ok(()) => resolve_fields(ws, pool, output, layout),
+        Err(why) => Err(refusal_in(ws, pool, layout, why)),
     }
 }

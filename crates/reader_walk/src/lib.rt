@@ -4,8 +4,7 @@
 ghost use Rattle.std.specs.Prelude.{◌≡◌};
 ghost use Rattle.reader_walk.specs.Steps.{step_at, end_at};
 
-use lexer::lexeme::one_lexeme_at;
-use tokens::TokenKind;
+use lexer::lexeme::lexeme_at;
 
 #[derive(Clone, Copy)]
 pub struct Reader<'a> {
@@ -30,13 +29,10 @@ pub fn step_at(s: &[u8], at: usize) -> Step
     if s.len() <= at {
         return Step::End;
     }
-    let p = one_lexeme_at(s, at);
-    let kind = p.kind;
-    let next = p.next;
-    if TokenKind::NEW_LINE < kind {
-        return Step::Bad;
+    match lexeme_at(s, at) {
+        Ok(piece) => Step::Lexeme(piece.kind as u32, piece.next),
+        Err(_) => Step::Bad,
     }
-    Step::Lexeme(kind, next)
 }
 
 // The place past what stands there; where nothing can be passed, the same place.
@@ -44,11 +40,9 @@ pub fn step_at(s: &[u8], at: usize) -> Step
 pub fn end_at(s: &[u8], at: usize) -> usize
     ensures { result ≡ end_at s.now at }
 {
-    let p = step_at(s, at);
-    match p {
+    match step_at(s, at) {
         Step::Lexeme(_, next) => next,
-        Step::Bad => at,
-        Step::End => at,
+        Step::Bad | Step::End => at,
     }
 }
 
@@ -76,10 +70,9 @@ pub fn after<'a>(r: Reader<'a>) -> Reader<'a>
     ensures same_text { result.text ≡ r.entry.text }
     ensures past { result.at ≡ end_at r.entry.text.now r.entry.at }
 {
-    let e = end_at(r.text, r.at);
     Reader {
-        text: r.text,
-        at: e,
+        at: end_at(r.text, r.at),
+        ..r
     }
 }
 

@@ -19,7 +19,7 @@ use Rattle.writer.specs.Writing.{Ready}
 use Rattle.records.specs.Contents.{fields_of, values_from, content_at, present_at, presents, Valued, Listed}
 use Rattle.records.specs.Measuring.{on_sum, on_need, measure_rows, measure_entry, measure_fields, measure_in}
 use Rattle.records.specs.Recording.{Fieldable}
-use Rattle.records.specs.declared.measure.Measured.TheVariants.{Need}
+use Rattle.std.specs.Prelude.{Ok}
 
 -- the map for n = 5: tokens, then a line a column; the fields' entries; the rest
 abbrev ws : List ℕ
@@ -52,7 +52,7 @@ valued : Valued 5 t 4 5
 unfolding values_of rules_in decode from_entry token pieces_of is_a pick resolve passes pass left expand bounded limit joined value
 valued = record { in_table = omega arith; expands = refl }
 
-pub needs : measure_in 5 5 1 ws pool ≡ Need 17
+pub needs : measure_in 5 5 1 ws pool ≡ Ok 17
 unfolding measure_fields measure_entry measure_rows on_sum on_need advance size_of is_string decode from_entry token is_a pick
 needs = refl
 

@@ -8,7 +8,6 @@ use native.Mathlib.Decide.{dec_lt}
 use native.Mathlib.Omega.{arith}
 use lib.ListN.{length, get_or, drop, length-append}
 use lib.Seq.{get_or-take, get_or-drop}
-use borrow.Author.Tests.{leb-true, leb-false}
 use Rattle.rules.specs.Bytes.{pick, to_little}
 use Rattle.rules.specs.Tokens.{Token}
 use Rattle.rules.specs.Numbers.{WhileResolving, in_field, undefined_variable, content_too_large, Result, refused, ok, ◌>>=◌}
@@ -20,34 +19,25 @@ use Rattle.scan.proofs.Littles.{length-little}
 use Rattle.tokens.specs.Entries.{decode, token_at}
 use Rattle.workspace.specs.Map.{Room, starts_of, ends_of, parts_between, arguments_from, template_at, field_of_entry, field_in, Looked, Holds}
 use Rattle.workspace.proofs.Links.{between-looked, keys_length}
-use Rattle.passes.specs.Sums.{size_at}
-use Rattle.passes.specs.declared.sums.Advance.{Advance}
-use Rattle.passes.specs.declared.sums.Advance.TheVariants as Adv
+use Rattle.passes.specs.Sums.{size_at, Advance}
+use Rattle.passes.specs.declared.sums.Stop.TheVariants.{Over, Missing}
 use Rattle.passes.proofs.FieldSums as sums
 use Rattle.writer.specs.Tables.{Tables, tables_in, pieces, value_between}
 use Rattle.writer.specs.Writing.{Ready}
 use Rattle.writer.proofs.Uses as uses
 use Rattle.records.specs.Contents.{fields_of, values_from, content_at, present_at, presents, Spans}
-use Rattle.records.specs.Measuring.{on_sum, on_need, sum_of_row, measure_rows, measure_entry, measure_fields, measure_in}
+use Rattle.records.specs.Measuring.{Measured, on_sum, on_need, sum_of_row, measure_rows, measure_entry, measure_fields, measure_in}
 use Rattle.records.specs.Recording.{entry_bytes, Fieldable}
-use Rattle.records.specs.declared.measure.Measured.{Measured}
-use Rattle.records.specs.declared.measure.Measured.TheVariants.{Need, Undefined, TooLarge}
+use Rattle.std.specs.Prelude.{Ok, Err}
+use Rattle.records.specs.declared.measure.Stop.TheVariants.{Undefined, TooLarge}
 use Rattle.records.proofs.Lists.{record-long}
-use Rattle.records.proofs.Fieldings.{records-front}
+use Rattle.records.proofs.Fieldings.{records-front, string-number, list-number}
 
 expanded-ok : (w : WhileResolving) (x : Expansion) (u : List ℕ) → expanded w x ≡ ok u → x ≡ Expansion.value u
 unfolding expanded
 expanded-ok w large u e = let z : ◌≡◌ {A = ℕ} 0 1 = cc in absurd (omega arith)
 expanded-ok w (missing n) u e = let z : ◌≡◌ {A = ℕ} 0 1 = cc in absurd (omega arith)
 expanded-ok w (Expansion.value v) u e = let q : v ≡ u = cc in ap Expansion.value q
-
-string-number : (f : ℕ) → is_string f ≡ true → f ≤ 7
-unfolding is_string
-string-number f q = leb-true f 7 q
-
-list-number : (f : ℕ) → is_string f ≡ false → 7 < f
-unfolding is_string
-list-number f q = leb-false f 7 q
 
 -- the workspace holds the file, its references are looked up, and its variables are resolved
 module _ (n count v : ℕ) (ws pool : List ℕ) (file : File) (room : Room n count v ws) (ready : Ready count v (tables_in n count v ws pool)) (holds : Holds n count v ws pool file)
@@ -81,14 +71,14 @@ module _ (n count v : ℕ) (ws pool : List ℕ) (file : File) (room : Room n cou
         (y, x ∙ ap Expansion.value y)
 
     abbrev RowSays : Advance → Type 0
-    RowSays Adv.Over = resolve_parts file.variables t.values w (parts i) ≡ refused (content_too_large w)
-    RowSays (Adv.Missing j s) = resolve_parts file.variables t.values w (parts i) ≡ refused (undefined_variable (token_at ts j) w)
-    RowSays (Adv.Sum x) = (resolve_parts file.variables t.values w (parts i) ≡ ok (bytes_of i)) × (x ≡ length (bytes_of i)) × Expands i
+    RowSays (Err Over) = resolve_parts file.variables t.values w (parts i) ≡ refused (content_too_large w)
+    RowSays (Err (Missing j s)) = resolve_parts file.variables t.values w (parts i) ≡ refused (undefined_variable (token_at ts j) w)
+    RowSays (Ok x) = (resolve_parts file.variables t.values w (parts i) ≡ ok (bytes_of i)) × (x ≡ length (bytes_of i)) × Expands i
 
     row_by : (a : Advance) → sums.Measured n count v ws pool file.variables t.values looked ready.lengths w (get_or (starts_of n ws) i 0) (get_or (ends_of n ws) i 0) a → RowSays a
-    row_by Adv.Over m = m
-    row_by (Adv.Missing j s) m = m
-    row_by (Adv.Sum x) m = let y = row-value m.0 m.1 in (m.1 ∙ ap ok y.0, sym m.2 ∙ ap length y.0, y.1)
+    row_by (Err Over) m = m
+    row_by (Err (Missing j s)) m = m
+    row_by (Ok x) m = let y = row-value m.0 m.1 in (m.1 ∙ ap ok y.0, sym m.2 ∙ ap length y.0, y.1)
 
     row-says : RowSays (sum_of_row (size_at n count v ws pool) (starts_of n ws) (ends_of n ws) i)
     row-says =
@@ -101,15 +91,15 @@ module _ (n count v : ℕ) (ws pool : List ℕ) (file : File) (room : Room n cou
     rest i m = resolve_arguments file.variables t.values (in_field f key) (arguments_from ts (starts_of n ws) (ends_of n ws) i m)
 
     abbrev RowsSay : ℕ → ℕ → ℕ → Measured → Type 0
-    RowsSay need i m (Need x) = (rest i m ≡ ok (values_from t i m)) × (x ≡ need + length (argument_records (values_from t i m))) × ((k : ℕ) → i ≤ k → k < i + m → Expands k)
-    RowsSay need i m (Undefined g j) = (g ≡ f) × (rest i m ≡ refused (undefined_variable (token_at ts j) (in_field f key)))
-    RowsSay need i m (TooLarge g) = (g ≡ f) × (rest i m ≡ refused (content_too_large (in_field f key)))
+    RowsSay need i m (Ok x) = (rest i m ≡ ok (values_from t i m)) × (x ≡ need + length (argument_records (values_from t i m))) × ((k : ℕ) → i ≤ k → k < i + m → Expands k)
+    RowsSay need i m (Err (Undefined g j)) = (g ≡ f) × (rest i m ≡ refused (undefined_variable (token_at ts j) (in_field f key)))
+    RowsSay need i m (Err (TooLarge g)) = (g ≡ f) × (rest i m ≡ refused (content_too_large (in_field f key)))
 
     -- one argument more
     more : (need i m x : ℕ) → (resolve_parts file.variables t.values (in_field f key) (parts i) ≡ ok (bytes_of i)) × (x ≡ length (bytes_of i)) × Expands i
         → (r : Measured) → RowsSay (need + (6 + x)) (suc i) m r → RowsSay need i (suc m) r
     unfolding arguments_from resolve_arguments ◌>>=◌ values_from argument_records
-    more need i m x h (Need y) q = (
+    more need i m x h (Ok y) q = (
       rw (h.0, q.0) refl,
       omega (arith, q.1, h.1, length-append (record_bytes 11 (bytes_of i)) (argument_records (values_from t (suc i) m)), record-long 11 (bytes_of i)),
       λ k a b. first k a b,
@@ -117,8 +107,8 @@ module _ (n count v : ℕ) (ws pool : List ℕ) (file : File) (room : Room n cou
       where
         first : (k : ℕ) → i ≤ k → k < i + suc m → Expands k
         first k a b = elim (dec_lt i k) [ yes l ↦ q.2 k (omega arith) (omega arith) | no l ↦ (let e : i ≡ k = omega arith in subst Expands e h.2) ]
-    more need i m x h (Undefined g j) q = (q.0, rw (h.0, q.1) refl)
-    more need i m x h (TooLarge g) q = (q.0, rw (h.0, q.1) refl)
+    more need i m x h (Err (Undefined g j)) q = (q.0, rw (h.0, q.1) refl)
+    more need i m x h (Err (TooLarge g)) q = (q.0, rw (h.0, q.1) refl)
 
     rows-say : (m need i : ℕ) → RowsSay need i m (measure_rows (size_at n count v ws pool) (starts_of n ws) (ends_of n ws) f need i m)
     unfolding measure_rows on_sum arguments_from resolve_arguments ◌>>=◌ values_from argument_records
@@ -129,9 +119,9 @@ module _ (n count v : ℕ) (ws pool : List ℕ) (file : File) (room : Room n cou
         go : (a : Advance) → RowSays (in_field f key) i a
             → ((x : ℕ) → RowsSay (need + (6 + x)) (suc i) m (measure_rows (size_at n count v ws pool) (starts_of n ws) (ends_of n ws) f (need + (6 + x)) (suc i) m))
             → RowsSay need i (suc m) (on_sum f a (λ x. measure_rows (size_at n count v ws pool) (starts_of n ws) (ends_of n ws) f (need + (6 + x)) (suc i) m))
-        go Adv.Over h ih = (refl, rw h refl)
-        go (Adv.Missing j s) h ih = (refl, rw h refl)
-        go (Adv.Sum x) h ih = more need i m x h (measure_rows (size_at n count v ws pool) (starts_of n ws) (ends_of n ws) f (need + (6 + x)) (suc i) m) (ih x)
+        go (Err Over) h ih = (refl, rw h refl)
+        go (Err (Missing j s)) h ih = (refl, rw h refl)
+        go (Ok x) h ih = more need i m x h (measure_rows (size_at n count v ws pool) (starts_of n ws) (ends_of n ws) f (need + (6 + x)) (suc i) m) (ih x)
 
   -- what the rules resolve the field f whose key is token k to
   abbrev whole : ℕ → ℕ → Result Content
@@ -143,15 +133,15 @@ module _ (n count v : ℕ) (ws pool : List ℕ) (file : File) (room : Room n cou
 
   module _ (f need k : ℕ) where
     abbrev EntrySays : Measured → Type 0
-    EntrySays (Need x) = (whole f k ≡ ok (content_at t f k)) × (x ≡ need + length (records_of f (content_at t f k))) × Shown f k
-    EntrySays (Undefined g j) = (g ≡ f) × (whole f k ≡ refused (undefined_variable (token_at ts j) (in_field f (token_at ts k))))
-    EntrySays (TooLarge g) = (g ≡ f) × (whole f k ≡ refused (content_too_large (in_field f (token_at ts k))))
+    EntrySays (Ok x) = (whole f k ≡ ok (content_at t f k)) × (x ≡ need + length (records_of f (content_at t f k))) × Shown f k
+    EntrySays (Err (Undefined g j)) = (g ≡ f) × (whole f k ≡ refused (undefined_variable (token_at ts j) (in_field f (token_at ts k))))
+    EntrySays (Err (TooLarge g)) = (g ≡ f) × (whole f k ≡ refused (content_too_large (in_field f (token_at ts k))))
 
-    string-says : is_string f ≡ true → (a : Advance) → RowSays (in_field f (token_at ts k)) k a → EntrySays (on_sum f a (λ x. Need (need + (6 + x))))
+    string-says : is_string f ≡ true → (a : Advance) → RowSays (in_field f (token_at ts k)) k a → EntrySays (on_sum f a (λ x. Ok (need + (6 + x))))
     unfolding on_sum template_at content_at resolve_template records_of ◌>>=◌ pick
-    string-says q Adv.Over h = (refl, rw (q, h) refl)
-    string-says q (Adv.Missing j s) h = (refl, rw (q, h) refl)
-    string-says q (Adv.Sum x) h = (
+    string-says q (Err Over) h = (refl, rw (q, h) refl)
+    string-says q (Err (Missing j s)) h = (refl, rw (q, h) refl)
+    string-says q (Ok x) h = (
       rw (q, h.0) refl,
       rw q (omega (arith, h.1, record-long f (bytes_of k))),
       ((λ l. h.2), λ l. absurd (omega (arith, string-number f q))),
@@ -164,7 +154,7 @@ module _ (n count v : ℕ) (ws pool : List ℕ) (file : File) (room : Room n cou
 
     list-says : is_string f ≡ false → (r : Measured) → RowsSay f (token_at ts k) (need + 10) (get_or (starts_of n ws) k 0) (get_or (ends_of n ws) k 0) r → EntrySays r
     unfolding template_at content_at resolve_template records_of ◌>>=◌ pick
-    list-says q (Need x) h =
+    list-says q (Ok x) h =
         let l = values-long (get_or (ends_of n ws) k 0) (get_or (starts_of n ws) k 0) in
         let vs : List (List ℕ) = values_from t (get_or (starts_of n ws) k 0) (get_or (ends_of n ws) k 0) in (
           rw (q, h.0) refl,
@@ -172,8 +162,8 @@ module _ (n count v : ℕ) (ws pool : List ℕ) (file : File) (room : Room n cou
               (omega (arith, h.1, length-append (record_bytes f (to_little 4 (length vs))) (argument_records vs), record-long f (to_little 4 (length vs)), length-little 4 (length vs))),
           ((λ l. absurd (omega (arith, list-number f q))), λ l. h.2),
         )
-    list-says q (Undefined g j) h = (h.0, rw (q, h.1) refl)
-    list-says q (TooLarge g) h = (h.0, rw (q, h.1) refl)
+    list-says q (Err (Undefined g j)) h = (h.0, rw (q, h.1) refl)
+    list-says q (Err (TooLarge g)) h = (h.0, rw (q, h.1) refl)
 
     entry-says : EntrySays (measure_entry (size_at n count v ws pool) (starts_of n ws) (ends_of n ws) f need (suc k))
     unfolding measure_entry pick
@@ -181,7 +171,7 @@ module _ (n count v : ℕ) (ws pool : List ℕ) (file : File) (room : Room n cou
       where
         go : (b : Bool) → is_string f ≡ b → EntrySays (measure_entry (size_at n count v ws pool) (starts_of n ws) (ends_of n ws) f need (suc k))
         go true q =
-            let e : on_sum f (sum_of_row (size_at n count v ws pool) (starts_of n ws) (ends_of n ws) k) (λ x. Need (need + (6 + x)))
+            let e : on_sum f (sum_of_row (size_at n count v ws pool) (starts_of n ws) (ends_of n ws) k) (λ x. Ok (need + (6 + x)))
             ≡ measure_entry (size_at n count v ws pool) (starts_of n ws) (ends_of n ws) f need (suc k) = rw q refl in
             subst EntrySays e (string-says q (sum_of_row (size_at n count v ws pool) (starts_of n ws) (ends_of n ws) k) (row-says (in_field f (token_at ts k)) k))
         go false q =
@@ -196,11 +186,11 @@ module _ (n count v : ℕ) (ws pool : List ℕ) (file : File) (room : Room n cou
   key_of g = token_at ts (get_or (fields_of n ws) g 0 - 1)
 
   abbrev FieldsSay : ℕ → ℕ → ℕ → Measured → Type 0
-  FieldsSay need f m (Need x) =
+  FieldsSay need f m (Ok x) =
       (fields_from m f file t.values ≡ ok (presents t (fields_of n ws) f m)) × (x ≡ need + length (records (presents t (fields_of n ws) f m)))
       × ((g k : ℕ) → f ≤ g → g < f + m → get_or (fields_of n ws) g 0 ≡ suc k → Shown g k)
-  FieldsSay need f m (Undefined g j) = fields_from m f file t.values ≡ refused (undefined_variable (token_at ts j) (in_field g (key_of g)))
-  FieldsSay need f m (TooLarge g) = fields_from m f file t.values ≡ refused (content_too_large (in_field g (key_of g)))
+  FieldsSay need f m (Err (Undefined g j)) = fields_from m f file t.values ≡ refused (undefined_variable (token_at ts j) (in_field g (key_of g)))
+  FieldsSay need f m (Err (TooLarge g)) = fields_from m f file t.values ≡ refused (content_too_large (in_field g (key_of g)))
 
   field_is : (f : ℕ) → 1 ≤ f → f ≤ 10 → field_at f file.fields ≡ field_of_entry ts (starts_of n ws) (ends_of n ws) f (get_or (fields_of n ws) f 0)
   unfolding field_in
@@ -211,7 +201,7 @@ module _ (n count v : ℕ) (ws pool : List ℕ) (file : File) (room : Room n cou
   module _ (f need m k : ℕ) (e : get_or (fields_of n ws) f 0 ≡ suc k) (is : field_at f file.fields ≡ some (record { number = f; key = token_at ts k; value = template_at ts (starts_of n ws) (ends_of n ws) f k })) where
     next : (x : ℕ) → (whole f k ≡ ok (content_at t f k)) × (x ≡ need + length (records_of f (content_at t f k))) × Shown f k → (r : Measured) → FieldsSay x (suc f) m r → FieldsSay need f (suc m) r
     unfolding fields_from presents present_at entry_bytes ◌>>=◌
-    next x h (Need y) q = (
+    next x h (Ok y) q = (
       rw (is, fields_from, h.0, q.0, e) refl,
       omega (arith, q.1, h.1, ap length (records-front t (fields_of n ws) f m), length-append (entry_bytes t f (get_or (fields_of n ws) f 0)) (records (presents t (fields_of n ws) (suc f) m)), ap (λ (j : ℕ). length (entry_bytes t f j)) e),
       λ g i a b p. first g i a b p,
@@ -226,8 +216,8 @@ module _ (n count v : ℕ) (ws pool : List ℕ) (file : File) (room : Room n cou
               let w : k ≡ i = omega arith in
               subst (λ (j : ℕ). Shown j i) z (subst (λ (j : ℕ). Shown f j) w h.2))
         ]
-    next x h (Undefined g j) q = rw (is, fields_from, h.0, q) refl
-    next x h (TooLarge g) q = rw (is, fields_from, h.0, q) refl
+    next x h (Err (Undefined g j)) q = rw (is, fields_from, h.0, q) refl
+    next x h (Err (TooLarge g)) q = rw (is, fields_from, h.0, q) refl
 
     key-is : key_of f ≡ token_at ts k
     key-is = ap (λ (j : ℕ). token_at ts j) (omega (arith, e))
@@ -235,9 +225,9 @@ module _ (n count v : ℕ) (ws pool : List ℕ) (file : File) (room : Room n cou
     one : (r : Measured) → EntrySays f need k r → ((x : ℕ) → FieldsSay x (suc f) m (measure_fields (size_at n count v ws pool) (starts_of n ws) (ends_of n ws) (fields_of n ws) x (suc f) m))
         → FieldsSay need f (suc m) (on_need r (λ x. measure_fields (size_at n count v ws pool) (starts_of n ws) (ends_of n ws) (fields_of n ws) x (suc f) m))
     unfolding on_need fields_from ◌>>=◌
-    one (Need x) h ih = next x h (measure_fields (size_at n count v ws pool) (starts_of n ws) (ends_of n ws) (fields_of n ws) x (suc f) m) (ih x)
-    one (Undefined g j) h ih = let z : g ≡ f = h.0 in rw (is, fields_from, h.1, z, key-is) refl
-    one (TooLarge g) h ih = let z : g ≡ f = h.0 in rw (is, fields_from, h.1, z, key-is) refl
+    one (Ok x) h ih = next x h (measure_fields (size_at n count v ws pool) (starts_of n ws) (ends_of n ws) (fields_of n ws) x (suc f) m) (ih x)
+    one (Err (Undefined g j)) h ih = let z : g ≡ f = h.0 in rw (is, fields_from, h.1, z, key-is) refl
+    one (Err (TooLarge g)) h ih = let z : g ≡ f = h.0 in rw (is, fields_from, h.1, z, key-is) refl
 
   fields-say : (m need f : ℕ) → 1 ≤ f → f + m ≤ 11 → FieldsSay need f m (measure_fields (size_at n count v ws pool) (starts_of n ws) (ends_of n ws) (fields_of n ws) need f m)
   unfolding measure_fields measure_entry on_need fields_from field_of_entry presents present_at records
@@ -245,7 +235,7 @@ module _ (n count v : ℕ) (ws pool : List ℕ) (file : File) (room : Room n cou
   fields-say (suc m) need f a b = go (get_or (fields_of n ws) f 0) refl (λ x. fields-say m x (suc f) (omega arith) (omega arith))
     where
       absent : (r : Measured) → get_or (fields_of n ws) f 0 ≡ 0 → FieldsSay need (suc f) m r → FieldsSay need f (suc m) r
-      absent (Need x) q h =
+      absent (Ok x) q h =
           let is : field_at f file.fields ≡ none = field_is f a (omega arith) ∙ ap (field_of_entry ts (starts_of n ws) (ends_of n ws) f) q in (
             rw (is, fields_from, q) h.0,
             rw q h.1,
@@ -255,10 +245,10 @@ module _ (n count v : ℕ) (ws pool : List ℕ) (file : File) (room : Room n cou
                   | no l ↦ absurd (let z : f ≡ g = omega arith in let y : get_or (fields_of n ws) f 0 ≡ suc k = subst (λ (j : ℕ). get_or (fields_of n ws) j 0 ≡ suc k) (sym z) p in omega arith)
                 ],
           )
-      absent (Undefined g j) q h =
+      absent (Err (Undefined g j)) q h =
           let is : field_at f file.fields ≡ none = field_is f a (omega arith) ∙ ap (field_of_entry ts (starts_of n ws) (ends_of n ws) f) q in
           rw (is, fields_from) h
-      absent (TooLarge g) q h =
+      absent (Err (TooLarge g)) q h =
           let is : field_at f file.fields ≡ none = field_is f a (omega arith) ∙ ap (field_of_entry ts (starts_of n ws) (ends_of n ws) f) q in
           rw (is, fields_from) h
 
@@ -273,23 +263,23 @@ module _ (n count v : ℕ) (ws pool : List ℕ) (file : File) (room : Room n cou
 
   -- THE MEANING of what `measure` answers
   abbrev pub Means : Measured → Type 0
-  Means (Need x) = (resolve_fields file t.values ≡ ok (presents t (fields_of n ws) 1 10)) × (x ≡ length (records (presents t (fields_of n ws) 1 10)))
-  Means (Undefined f j) = resolve_fields file t.values ≡ refused (undefined_variable (token_at ts j) (in_field f (key_of f)))
-  Means (TooLarge f) = resolve_fields file t.values ≡ refused (content_too_large (in_field f (key_of f)))
+  Means (Ok x) = (resolve_fields file t.values ≡ ok (presents t (fields_of n ws) 1 10)) × (x ≡ length (records (presents t (fields_of n ws) 1 10)))
+  Means (Err (Undefined f j)) = resolve_fields file t.values ≡ refused (undefined_variable (token_at ts j) (in_field f (key_of f)))
+  Means (Err (TooLarge f)) = resolve_fields file t.values ≡ refused (content_too_large (in_field f (key_of f)))
 
   by : (r : Measured) → FieldsSay 0 1 10 r → Means r
   unfolding resolve_fields
-  by (Need x) h = (h.0, omega (arith, h.1))
-  by (Undefined f j) h = h
-  by (TooLarge f) h = h
+  by (Ok x) h = (h.0, omega (arith, h.1))
+  by (Err (Undefined f j)) h = h
+  by (Err (TooLarge f)) h = h
 
   pub measured-is : (r : Measured) → r ≡ measure_in n count v ws pool → Means r
   measured-is r e = by r (subst (FieldsSay 0 1 10) (sym e) (fields-say 10 0 1 (omega arith) (omega arith)))
 
   -- where it answers a need that the output has, the records can be written
-  pub fieldable : Spans count t (fields_of n ws) → (x : ℕ) → Need x ≡ measure_in n count v ws pool → (out : List ℕ) → x ≤ length out → Fieldable n count v t (fields_of n ws) ws out
+  pub fieldable : Spans count t (fields_of n ws) → (x : ℕ) → Ok x ≡ measure_in n count v ws pool → (out : List ℕ) → x ≤ length out → Fieldable n count v t (fields_of n ws) ws out
   fieldable s x e out l =
-      let h : FieldsSay 0 1 10 (Need x) = subst (FieldsSay 0 1 10) (sym e) (fields-say 10 0 1 (omega arith) (omega arith)) in
+      let h : FieldsSay 0 1 10 (Ok x) = subst (FieldsSay 0 1 10) (sym e) (fields-say 10 0 1 (omega arith) (omega arith)) in
       record {
         room = room;
         ready = ready;

@@ -40,6 +40,11 @@ pub record Listed (count : ℕ) (t : Tables) (row m : ℕ) : Type 0 where
   pub few : row + m ≤ 65536
   pub each : (i : ℕ) → row ≤ i → i < row + m → Valued count t (get_or t.starts i 0) (get_or t.ends i 0)
 
+-- so has the field f, where this is its entry
+pub record Entered (count : ℕ) (t : Tables) (f entry : ℕ) : Type 0 where
+  pub strings : (k : ℕ) → f ≤ 7 → entry ≡ suc k → Valued count t (get_or t.starts k 0) (get_or t.ends k 0)
+  pub lists : (k : ℕ) → 7 < f → entry ≡ suc k → Listed count t (get_or t.starts k 0) (get_or t.ends k 0)
+
 -- and m fields from the f-th on
 pub record Fielded (count : ℕ) (t : Tables) (entries : List ℕ) (f m : ℕ) : Type 0 where
   pub strings : (g k : ℕ) → f ≤ g → g < f + m → g ≤ 7 → get_or entries g 0 ≡ suc k → Valued count t (get_or t.starts k 0) (get_or t.ends k 0)

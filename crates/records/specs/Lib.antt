@@ -1,3 +1,4 @@
 pub mod Contents
 pub mod Measuring
 pub mod Recording
+pub mod Writers

@@ -1,102 +1,103 @@
 // What the records of all fields need, by lengths alone, or the first refusal: fields by number, arguments in order. Nothing is written.
-ghost use Rattle.std.specs.Prelude.{◌≡◌, ◌+◌, ◌*◌, ◌-◌, ◌<◌, get_or};
-ghost use Rattle.passes.specs.Sums.{size_at, advance};
-ghost use Rattle.workspace.specs.Map.{Room, starts_of, ends_of};
-ghost use Rattle.records.specs.Contents.{fields_of};
-ghost use Rattle.records.specs.Measuring.{measure_rows, measure_entry, measure_in};
+ghost use Rattle.std.specs.Prelude.{◌≡◌, ◌<◌, Ok};
+ghost use Rattle.passes.specs.Sums.{size_in};
+ghost use Rattle.workspace.specs.Map.{Room};
+ghost use Rattle.records.specs.Measuring.{on_sum, sum_of_row, measure_rows, measure_entry, measure_in};
 
-use crate::RecordKind;
-use passes::sums::{Advance, sum_on};
-use scan::column::cell;
+use passes::sums;
+use passes::sums::View;
+use scan::column::{column, entry};
+use tokens::table::Table;
 
-// The bytes that all records need; or the field and the token of a reference without a value; or the field of a value that is too large.
+// Fields have the numbers 1 to LAST_FIELD; those from FIRST_LIST on are lists, the others strings. Kept: by number, as `measure_fields` counts them and as a
+// refusal tells them.
+const FIRST_LIST: usize = 8;
+
+const LAST_FIELD: usize = 10;
+
+// The first refusal.
 #[derive(Clone, Copy)]
-pub enum Measured {
-    Need(u64),
+pub enum Stop {
+    // the field and the token of a reference without a value
     Undefined(usize, usize),
+    // the field of a value that is too large
     TooLarge(usize),
 }
 
-// `need` bytes, and the records of the arguments of field f in the rows from `row` on.
-fn measure_rows(
-    ws: &[u32],
-    pool: &[u8],
-    n: usize,
-    count: usize,
-    v: usize,
-    f: usize,
-    need: u64,
-    row: usize,
-    rows: usize,
-) -> Measured
-    requires { Room n count v ws.now × (row < 4294967296) × (rows < 4294967296) × (need < 4611686018427387904) }
-    ensures { result ≡ measure_rows (size_at n count v ws.now pool.now) (starts_of n ws.now) (ends_of n ws.now) f need row rows }
-{
-    let mut sum = need;
-    let mut i = 0;
-    while i < rows {
-        let from = cell(ws, 5 * n, n, row + i);
-        let to = cell(ws, 6 * n, n, row + i);
-        let a = sum_on(ws, pool, n, count, v, from, to, 0);
-        match a {
-            Advance::Over => return Measured::TooLarge(f),
-            Advance::Missing(j, _) => return Measured::Undefined(f, j),
-            Advance::Sum(x) => {
-                sum += 6 + x as u64;
-                i += 1;
-            }
-        }
-    }
-    Measured::Need(sum)
+// What measuring reads: what sums read; by key token, and by row of an argument, the value's first token, and the token past it. Of a list's key token they
+// have the first row of its arguments, and how many there are.
+#[derive(Clone, Copy)]
+struct Values<'a> {
+    view: View<'a>,
+    starts: &'a [u32],
+    ends: &'a [u32],
 }
 
-// `need` bytes, and the records of field f, if it is there.
-fn measure_field(
-    ws: &[u32],
-    pool: &[u8],
-    n: usize,
-    count: usize,
-    v: usize,
-    f: usize,
-    need: u64,
-) -> Measured
-    requires { Room n count v ws.now × (need < 4611686018427387000) }
-    ensures { result ≡ measure_entry (size_at n count v ws.now pool.now) (starts_of n ws.now) (ends_of n ws.now) f need (get_or (fields_of n ws.now) f 0) }
-{
-    let entry = cell(ws, 12 * n, 11, f);
-    if entry == 0 {
-        return Measured::Need(need);
+impl<'a> Values<'a> {
+    // The length of the value of this row, which is of field f.
+    fn length(self, f: usize, row: usize) -> Result<u64, Stop>
+        ensures { result ≡ on_sum f (sum_of_row (size_in self.entry.view.tokens.now self.entry.view.ranks.now self.entry.view.lengths.now) self.entry.starts.now self.entry.ends.now row) (λ x. Ok x) }
+    {
+        match self
+            .view
+            .sum_on(entry(self.starts, row), entry(self.ends, row), 0)
+        {
+            Ok(sum) => Ok(sum as u64),
+            Err(sums::Stop::Missing(j, _)) => Err(Stop::Undefined(f, j)),
+            Err(sums::Stop::Over) => Err(Stop::TooLarge(f)),
+        }
     }
-    let from = cell(ws, 5 * n, n, entry - 1);
-    let to = cell(ws, 6 * n, n, entry - 1);
-    if RecordKind::FIRST_LIST <= f {
-        return measure_rows(ws, pool, n, count, v, f, need + 10, from, to);
+
+    // `need` bytes, and the records of the arguments of field f in the rows from `row` on.
+    fn rows(self, f: usize, need: u64, row: usize, rows: usize) -> Result<u64, Stop>
+        requires { (row < 4294967296) × (rows < 4294967296) × (need < 4611686018427387904) }
+        ensures { result ≡ measure_rows (size_in self.entry.view.tokens.now self.entry.view.ranks.now self.entry.view.lengths.now) self.entry.starts.now self.entry.ends.now f need row rows }
+    {
+        let mut sum = need;
+        for i in row..row + rows {
+            sum += 6 + self.length(f, i)?;
+        }
+        Ok(sum)
     }
-    let a = sum_on(ws, pool, n, count, v, from, to, 0);
-    match a {
-        Advance::Over => Measured::TooLarge(f),
-        Advance::Missing(j, _) => Measured::Undefined(f, j),
-        Advance::Sum(x) => Measured::Need(need + (6 + x as u64)),
+
+    // `need` bytes, and the records of field f by its entry, if it is there.
+    fn field(self, f: usize, need: u64, key: usize) -> Result<u64, Stop>
+        requires { need < 4611686018427387000 }
+        ensures { result ≡ measure_entry (size_in self.entry.view.tokens.now self.entry.view.ranks.now self.entry.view.lengths.now) self.entry.starts.now self.entry.ends.now f need key }
+    {
+        let Some(row) = key.checked_sub(1) else {
+            return Ok(need);
+        };
+        if FIRST_LIST <= f {
+            let first = entry(self.starts, row);
+            let rows = entry(self.ends, row);
+            return self.rows(f, need + 10, first, rows);
+        }
+        Ok(need + (6 + self.length(f, row)?))
     }
 }
 
 // The bytes that the records of all fields need, or the first refusal.
-pub fn measure(ws: &[u32], pool: &[u8], n: usize, count: usize, v: usize) -> Measured
+// Kept: the five arguments are those of its contract, `measure_in`, and of the stages beside it.
+pub fn measure(ws: &[u32], pool: &[u8], n: usize, count: usize, v: usize) -> Result<u64, Stop>
     requires { Room n count v ws.now }
     ensures { result ≡ measure_in n count v ws.now pool.now }
 {
+    let tokens = Table::new(ws, pool, count);
+    let view = View {
+        tokens: &tokens,
+        ranks: column(ws, 7 * n, n),
+        lengths: column(ws, 8 * n, v),
+    };
+    let values = Values {
+        view,
+        starts: column(ws, 5 * n, n),
+        ends: column(ws, 6 * n, n),
+    };
+    let entries = column(ws, 12 * n, 11);
     let mut need: u64 = 0;
-    let mut f = 1;
-    while f <= RecordKind::LAST_FIELD {
-        let m = measure_field(ws, pool, n, count, v, f, need);
-        match m {
-            Measured::Need(x) => {
-                need = x;
-                f += 1;
-            }
-            Measured::Undefined(g, j) => return Measured::Undefined(g, j),
-            Measured::TooLarge(g) => return Measured::TooLarge(g),
-        }
+    for f in 1..=LAST_FIELD {
+        need = values.field(f, need, entry(entries, f))?;
     }
-    Measured::Need(need)
+    Ok(need)
 }

@@ -2,155 +2,148 @@
 ghost use Rattle.std.specs.Prelude.{◌≡◌, ◌+◌, ◌≤◌, length, get_or};
 ghost use Rattle.rules.specs.Records.{record_bytes, argument_records, records};
 ghost use Rattle.scan.specs.Stores.{puts};
+ghost use Rattle.fields.specs.Numbers.{number_of};
 ghost use Rattle.writer.specs.Tables.{tables_in, value_between};
-ghost use Rattle.writer.specs.Writing.{Remembered, Written};
-ghost use Rattle.records.specs.Contents.{fields_of, values_from, presents, Valued, Listed, Fielded};
-ghost use Rattle.records.specs.Recording.{head, list_bytes, entry_bytes, Standing, Fieldable, Recorded};
+ghost use Rattle.records.specs.Contents.{fields_of, values_from, presents, Valued, Listed, Entered, Fielded};
+ghost use Rattle.records.specs.Recording.{head, list_bytes, entry_bytes, Fieldable, Presentable, Recorded};
+ghost use Rattle.records.specs.Writers.{Stands, Wrote};
 
-use crate::RecordKind;
-use scan::column::cell;
-use scan::little::put_little;
+use fields::Field;
+use scan::store::copy;
+use writer::columns::{Columns, Layout};
 use writer::{forget, write_value};
 
+// The kind of an argument's record; that of a field's is the field's number.
+const ARGUMENT: u16 = 11;
+
 // The head of a record: the payload's length in four bytes, the kind in two.
-fn put_head(out: &mut [u8], at: usize, size: usize, kind: usize)
+fn put_head(out: &mut [u8], at: usize, size: u32, kind: u16)
     requires { at + 6 ≤ length out.old }
     ensures { out.new ≡ puts out.old at (head size kind) }
 {
-    put_little(out, at, 4, size as u64);
-    put_little(out, at + 4, 2, kind as u64);
+    copy(&size.to_le_bytes(), out, at);
+    copy(&kind.to_le_bytes(), out, at + 4);
 }
 
-// The value of the tokens from `from` up to `to` as a record: the value, and then its head, once its length is known. Returns the place past it.
-fn write_record(
-    ws: &mut [u32],
-    pool: &[u8],
-    out: &mut [u8],
-    at: usize,
-    kind: usize,
-    from: usize,
-    to: usize,
-    n: usize,
-    count: usize,
-    v: usize,
-) -> usize
-    requires { Standing n count v (tables_in n count v ws.old pool.now) ws.old out.old at (record_bytes kind (value_between (tables_in n count v ws.old pool.now) from to)) × Valued count (tables_in n count v ws.old pool.now) from to }
-    ensures { Written n v (tables_in n count v ws.old pool.now) ws.old out.old at
-        (record_bytes kind (value_between (tables_in n count v ws.old pool.now) from to)) ws.new out.new result }
+// The number of a field, which is the kind of its record.
+fn number(field: Field) -> u16
+    ensures { result ≡ number_of field }
 {
-    let start = at + 6;
-    let end = write_value(ws, pool, out, start, from, to, n, count, v);
-    put_head(out, at, end - start, kind);
-    end
+    field as u16
 }
 
-// The records of the arguments in the rows from `row` on.
-fn write_arguments(
-    ws: &mut [u32],
-    pool: &[u8],
-    out: &mut [u8],
+// Writes records one after another: what they are made of; the places of values that are written already; the stack; and the output, with the place of the
+// next record.
+#[derive(Drop)]
+pub struct Writer<'t, 'a> {
+    columns: &'t Columns<'t>,
+    places: &'a mut [u32],
+    stack: &'a mut [u32],
+    out: &'a mut [u8],
     at: usize,
-    row: usize,
-    rows: usize,
-    n: usize,
-    count: usize,
-    v: usize,
-) -> usize
-    requires { Standing n count v (tables_in n count v ws.old pool.now) ws.old out.old at (argument_records (values_from (tables_in n count v ws.old pool.now) row rows)) × Listed count (tables_in n count v ws.old pool.now) row rows }
-    ensures { Written n v (tables_in n count v ws.old pool.now) ws.old out.old at
-        (argument_records (values_from (tables_in n count v ws.old pool.now) row rows)) ws.new out.new result }
-{
-    let mut p = at;
-    let mut i = 0;
-    while i < rows {
-        let from = cell(ws, 5 * n, n, row + i);
-        let to = cell(ws, 6 * n, n, row + i);
-        p = write_record(
-            ws,
-            pool,
-            out,
-            p,
-            RecordKind::ARGUMENT,
+}
+
+impl<'t, 'a> Writer<'t, 'a> {
+    // The value of the tokens from `from` up to `to` as a record: the value, and then its head, once its length is known.
+    fn write_record(&mut self, kind: u16, from: usize, to: usize)
+        requires { Stands self.old (record_bytes kind (value_between self.old.columns.now from to)) × Valued (length self.old.columns.now.tokens) self.old.columns.now from to }
+        ensures { Wrote self.old self.new (record_bytes kind (value_between self.old.columns.now from to)) }
+    {
+        let at = self.at;
+        let start = at + 6;
+        let end = write_value(
+            self.columns,
+            self.places,
+            self.stack,
+            self.out,
+            start,
             from,
             to,
-            n,
-            count,
-            v,
         );
-        i += 1;
+        put_head(self.out, at, (end - start) as u32, kind);
+        self.at = end;
     }
-    p
+
+    // The records of the arguments in the rows from `row` on.
+    fn write_arguments(&mut self, row: usize, rows: usize)
+        requires { Stands self.old (argument_records (values_from self.old.columns.now row rows)) × Listed (length self.old.columns.now.tokens) self.old.columns.now row rows }
+        ensures { Wrote self.old self.new (argument_records (values_from self.old.columns.now row rows)) }
+    {
+        for i in row..row + rows {
+            let from = self.columns.start(i);
+            let to = self.columns.end(i);
+            self.write_record(ARGUMENT, from, to);
+        }
+    }
+
+    // A list: its record, which is the count of its arguments, and theirs.
+    fn write_list(&mut self, kind: u16, row: usize, rows: usize)
+        requires { Stands self.old (list_bytes self.old.columns.now kind row rows) × Listed (length self.old.columns.now.tokens) self.old.columns.now row rows }
+        ensures { Wrote self.old self.new (list_bytes self.old.columns.now kind row rows) }
+    {
+        let at = self.at;
+        put_head(self.out, at, 4, kind);
+        copy(&(rows as u32).to_le_bytes(), self.out, at + 6);
+        self.at = at + 10;
+        self.write_arguments(row, rows);
+    }
+
+    // The records of a field, where its entry is one more than its key token; 0 where it is absent.
+    fn write_field(&mut self, field: Field, entry: usize)
+        requires { Stands self.old (entry_bytes self.old.columns.now (number_of field) entry) × Entered (length self.old.columns.now.tokens) self.old.columns.now (number_of field) entry }
+        ensures { Wrote self.old self.new (entry_bytes self.old.columns.now (number_of field) entry) }
+    {
+        let Some(key) = entry.checked_sub(1) else {
+            return;
+        };
+        let from = self.columns.start(key);
+        let to = self.columns.end(key);
+        let kind = number(field);
+        if field.is_string() {
+            self.write_record(kind, from, to);
+        } else {
+            self.write_list(kind, from, to);
+        }
+    }
+
+    // The records of the fields present, by number.
+    fn write_each(&mut self, fields: &[u32])
+        requires { Stands self.old (records (presents self.old.columns.now fields.now 1 10)) × Fielded (length self.old.columns.now.tokens) self.old.columns.now fields.now 1 10 × (11 ≤ length fields.now) }
+        ensures { Wrote self.old self.new (records (presents self.old.columns.now fields.now 1 10)) }
+    {
+        for field in Field::ALL {
+            let f = number(field) as usize;
+            self.write_field(field, fields[f] as usize);
+        }
+    }
 }
 
-// A list: its record, which is the count of its arguments, and theirs.
-fn write_list(
-    ws: &mut [u32],
+// The records of the fields present to the output's front. Returns how many bytes they are. `front` is the workspace up to the scratch, whose parts are the
+// places and the stack; `fields` are the entries of all fields.
+fn write_present(
+    front: &[u32],
     pool: &[u8],
+    layout: Layout,
+    fields: &[u32],
+    places: &mut [u32],
+    stack: &mut [u32],
     out: &mut [u8],
-    at: usize,
-    kind: usize,
-    row: usize,
-    rows: usize,
-    n: usize,
-    count: usize,
-    v: usize,
 ) -> usize
-    requires { Standing n count v (tables_in n count v ws.old pool.now) ws.old out.old at (list_bytes (tables_in n count v ws.old pool.now) kind row rows) × Listed count (tables_in n count v ws.old pool.now) row rows }
-    ensures { Written n v (tables_in n count v ws.old pool.now) ws.old out.old at
-        (list_bytes (tables_in n count v ws.old pool.now) kind row rows) ws.new out.new result }
+    requires { Presentable layout.n layout.v (tables_in layout.n layout.count layout.v front.now pool.now) front.now fields.now places.old stack.old out.old }
+    ensures is_end { result ≡ length (records (presents (tables_in layout.n layout.count layout.v front.now pool.now) fields.now 1 10)) }
+    ensures bytes { out.new ≡ puts out.old 0 (records (presents (tables_in layout.n layout.count layout.v front.now pool.now) fields.now 1 10)) }
 {
-    put_head(out, at, 4, kind);
-    put_little(out, at + 6, 4, rows as u64);
-    write_arguments(ws, pool, out, at + 10, row, rows, n, count, v)
-}
-
-// The records of field f, if it is there.
-fn write_field(
-    ws: &mut [u32],
-    pool: &[u8],
-    out: &mut [u8],
-    at: usize,
-    f: usize,
-    n: usize,
-    count: usize,
-    v: usize,
-) -> usize
-    requires { Standing n count v (tables_in n count v ws.old pool.now) ws.old out.old at (entry_bytes (tables_in n count v ws.old pool.now) f (get_or (fields_of n ws.old) f 0)) × Fielded count (tables_in n count v ws.old pool.now) (fields_of n ws.old) f 1 }
-    ensures { Written n v (tables_in n count v ws.old pool.now) ws.old out.old at
-        (entry_bytes (tables_in n count v ws.old pool.now) f (get_or (fields_of n ws.old) f 0)) ws.new out.new result }
-{
-    let entry = cell(ws, 12 * n, 11, f);
-    if entry == 0 {
-        return at;
-    }
-    let from = cell(ws, 5 * n, n, entry - 1);
-    let to = cell(ws, 6 * n, n, entry - 1);
-    if f < RecordKind::FIRST_LIST {
-        return write_record(ws, pool, out, at, f, from, to, n, count, v);
-    }
-    write_list(ws, pool, out, at, f, from, to, n, count, v)
-}
-
-// The records of the fields present, by number, to the output's front, where what is remembered is right.
-fn write_each(
-    ws: &mut [u32],
-    pool: &[u8],
-    out: &mut [u8],
-    n: usize,
-    count: usize,
-    v: usize,
-) -> usize
-    requires { Fieldable n count v (tables_in n count v ws.old pool.now) (fields_of n ws.old) ws.old out.old × Remembered n v (tables_in n count v ws.old pool.now) ws.old out.old 0 }
-    ensures { Recorded n ws.old out.old
-        (records (presents (tables_in n count v ws.old pool.now) (fields_of n ws.old) 1 10)) ws.new out.new result }
-{
-    let mut p = 0;
-    let mut f = 1;
-    while f <= RecordKind::LAST_FIELD {
-        p = write_field(ws, pool, out, p, f, n, count, v);
-        f += 1;
-    }
-    p
+    forget(places);
+    let columns = Columns::new(front, pool, layout);
+    let mut writer = Writer {
+        columns: &columns,
+        places,
+        stack,
+        out,
+        at: 0,
+    };
+    writer.write_each(fields);
+    writer.at
 }
 
 // The records of the fields present, by number, to the output's front. Returns how many bytes they are.
@@ -166,6 +159,9 @@ pub fn write_fields(
     ensures { Recorded n ws.old out.old
         (records (presents (tables_in n count v ws.old pool.now) (fields_of n ws.old) 1 10)) ws.new out.new result }
 {
-    forget(ws, n, v);
-    write_each(ws, pool, out, n, count, v)
+    let (front, rest) = ws.split_at_mut(9 * n);
+    let (scratch, fields) = rest.split_at_mut(3 * n);
+    let (places, stack) = scratch.split_at_mut(2 * v);
+    let layout = Layout { n, count, v };
+    write_present(front, pool, layout, &fields[..11], places, stack, out)
 }

@@ -2,24 +2,33 @@
 // reader, and compares. Prints a line for each text that differs, then how many texts there are and how many differ.
 #![tactic(auto)]
 
-ghost use Rattle.std.specs.Prelude.{◌≤◌, IfOk};
-
-use answers::{Answer, Name};
+use answers::{Detail, Name, Refusal, number_of};
 use scan::column::part;
 use scan::little::get_little;
-use scan::order::same_bytes;
 use std::io;
 use std::io::{Read, Write};
 
-// What the first byte of an answer says, where it is not the number of a refusal. Records of more than 65,536 bytes do not fit the
-// output: of these the need is compared, and not their sums.
+// What the list says of a text.
 #[derive(Clone, Copy)]
-struct Mark {}
+enum Expected<'a> {
+    // its records
+    Records(&'a [u8]),
+    // how many bytes its records need: more than 65,536, which do not fit the output, so their bytes are not compared
+    Long(u64),
+    // a refusal's number, and its detail
+    Refused(u64, &'a [u8]),
+}
 
-impl Mark {
-    const ACCEPTED: u64 = 0;
-
-    const LONG: u64 = 255;
+impl<'a> Expected<'a> {
+    // By the first byte: 0, 255, or the number of a refusal.
+    fn new(bytes: &'a [u8]) -> Expected<'a> {
+        let rest = part(bytes, 1, bytes.len());
+        match get_little(bytes, 0, 1) {
+            0 => Expected::Records(rest),
+            255 => Expected::Long(get_little(rest, 0, 8)),
+            number => Expected::Refused(number, rest),
+        }
+    }
 }
 
 // Reads n bytes to the front of a buffer; false where it is shorter, or the input ends before.
@@ -47,148 +56,114 @@ fn read_number<R: Read>(input: &mut R, width: usize) -> io::Result<usize> {
 fn same_name(name: Name, expected: &[u8], pool: &[u8]) -> bool {
     let place = name.place as usize;
     let length = name.length as usize;
-    if get_little(expected, 0, 2) != length as u64 {
-        return false;
-    }
-    same_bytes(part(expected, 2, length), part(pool, place, length))
-}
-
-// The records, and nothing else.
-fn same_records(a: Answer, expected: &[u8], output: &[u8]) -> bool {
-    let records = part(output, 0, a.detail.value as usize);
-    records.len() as u64 == a.detail.value && same_bytes(expected, records)
+    get_little(expected, 0, 2) == length as u64
+        && part(expected, 2, length) == part(pool, place, length)
 }
 
 // 4 bytes of value, the first name and the second.
-fn same_refusal(a: Answer, expected: &[u8], pool: &[u8]) -> bool {
-    if get_little(expected, 0, 4) != a.detail.value {
-        return false;
-    }
-    let first = a.detail.first;
-    let second = a.detail.second;
+fn same_detail(detail: Detail, expected: &[u8], pool: &[u8]) -> bool {
     let names = part(expected, 4, expected.len());
-    if same_name(first, names, pool) {
-        let after = 2 + first.length as usize;
-        return same_name(second, part(names, after, names.len()), pool);
-    }
-    false
+    let after = 2 + detail.first.length as usize;
+    get_little(expected, 0, 4) == detail.value
+        && same_name(detail.first, names, pool)
+        && same_name(detail.second, part(names, after, names.len()), pool)
 }
 
-fn same_answer(a: Answer, expected: &[u8], pool: &[u8], output: &[u8]) -> bool {
-    let case = a.number;
-    let number = answers::number_of(case) as u64;
-    let mark = get_little(expected, 0, 1);
-    let rest = part(expected, 1, expected.len());
-    if mark == Mark::ACCEPTED {
-        return number == 0 && same_records(a, rest, output);
-    }
-    if mark == Mark::LONG {
-        return number == 17 && get_little(rest, 0, 8) == a.detail.value;
-    }
-    number == mark && same_refusal(a, rest, pool)
-}
-
-// Whether the reader answers so.
-fn answers_so(
-    text: &[u8],
-    expected: &[u8],
-    ws: &mut [u32],
-    pool: &mut [u8],
-    output: &mut [u8],
+// The records and nothing else, the same need, or the same refusal.
+fn same_answer(
+    answer: Result<u64, Refusal>,
+    expected: Expected,
+    pool: &[u8],
+    output: &[u8],
 ) -> bool {
-    let a = pkg_config::read(text, ws, pool, output);
-    same_answer(a, expected, pool, output)
+    match (expected, answer) {
+        (Expected::Records(records), Ok(written)) => {
+            records.len() as u64 == written && records == part(output, 0, records.len())
+        }
+        (Expected::Long(bytes), Err(Refusal::OutputShort(need))) => bytes == need,
+        (Expected::Refused(number, detail), Err(refusal)) => {
+            number == number_of(refusal.number()) as u64
+                && same_detail(refusal.detail(), detail, pool)
+        }
+        _ => false,
+    }
 }
 
-// The next text of the list, and its answer.
+// Whether the reader answers the next text of the list as it says.
 fn next_is_same<R: Read>(
     input: &mut R,
     text: &mut [u8],
     expected: &mut [u8],
-    ws: &mut [u32],
+    workspace: &mut [u32],
     pool: &mut [u8],
     output: &mut [u8],
 ) -> io::Result<bool> {
     let n = read_number(input, 2)?;
-    if fill(input, text, n)? {
-        let m = read_number(input, 4)?;
-        if fill(input, expected, m)? {
-            return Ok(answers_so(part(text, 0, n), part(expected, 0, m), ws, pool, output));
-        }
+    if !fill(input, text, n)? {
+        return Ok(false);
     }
-    Ok(false)
+    let m = read_number(input, 4)?;
+    if !fill(input, expected, m)? {
+        return Ok(false);
+    }
+    let answer = pkg_config::read(part(text, 0, n), workspace, pool, output);
+    Ok(same_answer(answer, Expected::new(part(expected, 0, m)), pool, output))
 }
 
-// 1 where the next text differs, and a line that says so.
-fn difference<R: Read, W: Write>(
-    input: &mut R,
-    out: &mut W,
-    i: usize,
-    text: &mut [u8],
-    expected: &mut [u8],
-    ws: &mut [u32],
-    pool: &mut [u8],
-    output: &mut [u8],
-) -> io::Result<usize>
-    ensures { IfOk result (λ n. n ≤ 1) }
-{
-    if next_is_same(input, text, expected, ws, pool, output)? {
-        return Ok(0);
-    }
-    writeln!(out, "differs: {i}")?;
-    Ok(1)
+// The memory that a run is lent beside the workspace: for a text and what is expected of it, and for the reader.
+struct Buffers<'a> {
+    text: &'a mut [u8],
+    expected: &'a mut [u8],
+    pool: &'a mut [u8],
+    output: &'a mut [u8],
 }
 
-fn differences<R: Read, W: Write>(
-    input: &mut R,
-    out: &mut W,
-    count: usize,
-    text: &mut [u8],
-    expected: &mut [u8],
-    ws: &mut [u32],
-    pool: &mut [u8],
-    output: &mut [u8],
-) -> io::Result<usize> {
-    let mut found = 0;
-    for i in 0..count {
-        found += difference(input, out, i, text, expected, ws, pool, output)?;
-    }
-    Ok(found)
-}
-
-// The workspace comes with its length as a parameter: so large an array, as a slice of `main`, would be written out in the proof.
+// The list: its first eight bytes, how many texts it has, and the texts with their answers. The workspace comes with its length as a parameter: so large an
+// array, as a slice of `main`, would be written out in the proof.
 fn run<const N: usize, R: Read, W: Write>(
     input: &mut R,
     out: &mut W,
-    text: &mut [u8],
-    expected: &mut [u8],
-    ws: &mut [u32; N],
-    pool: &mut [u8],
-    output: &mut [u8],
+    workspace: &mut [u32; N],
+    buffers: Buffers<'_>,
 ) -> io::Result<()> {
+    let Buffers {
+        text,
+        expected,
+        pool,
+        output,
+    } = buffers;
     fill(input, text, 8)?;
-    if same_bytes(part(text, 0, 8), b"cabbage1") {
-        let count = read_number(input, 4)?;
-        let found = differences(input, out, count, text, expected, ws, pool, output)?;
-        return writeln!(out, "{count} texts, {found} differences");
+    if part(text, 0, 8) != b"cabbage1".as_slice() {
+        return writeln!(out, "not a list");
     }
-    writeln!(out, "not a list")
+    let count = read_number(input, 4)?;
+    let mut found = 0usize;
+    for i in 0..count {
+        if !next_is_same(input, text, expected, workspace, pool, output)? {
+            writeln!(out, "differs: {i}")?;
+            found += 1;
+        }
+    }
+    writeln!(out, "{count} texts, {found} differences")
 }
 
 // Room for the longest text, 65,535 bytes: 12 * 65,535 + 64 entries of workspace.
 fn main(rt: HostRuntime) -> io::Result<()> {
     let mut text = [0u8; 65535];
     let mut expected = [0u8; 65537];
-    let mut ws = [0u32; 786484];
+    let mut workspace = [0u32; 786484];
     let mut pool = [0u8; 65535];
     let mut output = [0u8; 65536];
+    let buffers = Buffers {
+        text: &mut text,
+        expected: &mut expected,
+        pool: &mut pool,
+        output: &mut output,
+    };
     run(
         &mut rt.reader(),
         &mut io::writer(&rt),
-        &mut text,
-        &mut expected,
-        &mut ws,
-        &mut pool,
-        &mut output,
+        &mut workspace,
+        buffers,
     )
 }

@@ -10,7 +10,9 @@ use lib.Seq.{drop-cons}
 use borrow.Author.Tests.{ltb-true, ltb-false, eq-eqb, ne_eqb, le-leb, lt-leb}
 use Rattle.rules.specs.Bytes.{is, within, pick}
 use Rattle.rules.specs.Lexing.{Class, class, other, identifier, blank, line_end, hash, dollar, open_brace, close_brace, backslash, equals, colon, single, double, is_identifier, is_line_end}
-use Rattle.scan.specs.Classes.{class_number, class_at, past, ClassTable}
+use Rattle.scan.specs.Classes.{class_number, class_at, past, number_of}
+use Rattle.scan.specs.declared.class.ByteClass.{ByteClass}
+use Rattle.scan.specs.declared.class.ByteClass.TheVariants.{Other, Identifier, Blank, Equals, Colon, Single, Double, Backslash, LineEnd, Dollar, Hash, OpenBrace, CloseBrace, Past}
 use Rattle.scan.proofs.Table.{every, both, both_left, both_right, at, same, same-eq}
 
 -- the class of a number, so that a number tells its class
@@ -69,28 +71,28 @@ test double b = is "\"" b
 agrees : Class → ℕ → Bool
 agrees c b = same (test c b) (eqb (class_number (class b)) (class_number c))
 
-abbrev pub table : List ℕ
+abbrev pub table : List ByteClass
 table =
-    0 ∷ 0 ∷ 0 ∷ 0 ∷ 0 ∷ 0 ∷ 0 ∷ 0 ∷ 0 ∷ 3 ∷ 9 ∷ 0 ∷ 0 ∷ 9 ∷ 0 ∷ 0
-    ∷ 0 ∷ 0 ∷ 0 ∷ 0 ∷ 0 ∷ 0 ∷ 0 ∷ 0 ∷ 0 ∷ 0 ∷ 0 ∷ 0 ∷ 0 ∷ 0 ∷ 0 ∷ 0
-    ∷ 3 ∷ 0 ∷ 7 ∷ 11 ∷ 10 ∷ 0 ∷ 0 ∷ 6 ∷ 0 ∷ 0 ∷ 0 ∷ 0 ∷ 0 ∷ 0 ∷ 1 ∷ 0
-    ∷ 1 ∷ 1 ∷ 1 ∷ 1 ∷ 1 ∷ 1 ∷ 1 ∷ 1 ∷ 1 ∷ 1 ∷ 5 ∷ 0 ∷ 0 ∷ 4 ∷ 0 ∷ 0
-    ∷ 0 ∷ 1 ∷ 1 ∷ 1 ∷ 1 ∷ 1 ∷ 1 ∷ 1 ∷ 1 ∷ 1 ∷ 1 ∷ 1 ∷ 1 ∷ 1 ∷ 1 ∷ 1
-    ∷ 1 ∷ 1 ∷ 1 ∷ 1 ∷ 1 ∷ 1 ∷ 1 ∷ 1 ∷ 1 ∷ 1 ∷ 1 ∷ 0 ∷ 8 ∷ 0 ∷ 0 ∷ 1
-    ∷ 0 ∷ 1 ∷ 1 ∷ 1 ∷ 1 ∷ 1 ∷ 1 ∷ 1 ∷ 1 ∷ 1 ∷ 1 ∷ 1 ∷ 1 ∷ 1 ∷ 1 ∷ 1
-    ∷ 1 ∷ 1 ∷ 1 ∷ 1 ∷ 1 ∷ 1 ∷ 1 ∷ 1 ∷ 1 ∷ 1 ∷ 1 ∷ 12 ∷ 0 ∷ 13 ∷ 0 ∷ 0
-    ∷ 0 ∷ 0 ∷ 0 ∷ 0 ∷ 0 ∷ 0 ∷ 0 ∷ 0 ∷ 0 ∷ 0 ∷ 0 ∷ 0 ∷ 0 ∷ 0 ∷ 0 ∷ 0
-    ∷ 0 ∷ 0 ∷ 0 ∷ 0 ∷ 0 ∷ 0 ∷ 0 ∷ 0 ∷ 0 ∷ 0 ∷ 0 ∷ 0 ∷ 0 ∷ 0 ∷ 0 ∷ 0
-    ∷ 0 ∷ 0 ∷ 0 ∷ 0 ∷ 0 ∷ 0 ∷ 0 ∷ 0 ∷ 0 ∷ 0 ∷ 0 ∷ 0 ∷ 0 ∷ 0 ∷ 0 ∷ 0
-    ∷ 0 ∷ 0 ∷ 0 ∷ 0 ∷ 0 ∷ 0 ∷ 0 ∷ 0 ∷ 0 ∷ 0 ∷ 0 ∷ 0 ∷ 0 ∷ 0 ∷ 0 ∷ 0
-    ∷ 0 ∷ 0 ∷ 0 ∷ 0 ∷ 0 ∷ 0 ∷ 0 ∷ 0 ∷ 0 ∷ 0 ∷ 0 ∷ 0 ∷ 0 ∷ 0 ∷ 0 ∷ 0
-    ∷ 0 ∷ 0 ∷ 0 ∷ 0 ∷ 0 ∷ 0 ∷ 0 ∷ 0 ∷ 0 ∷ 0 ∷ 0 ∷ 0 ∷ 0 ∷ 0 ∷ 0 ∷ 0
-    ∷ 0 ∷ 0 ∷ 0 ∷ 0 ∷ 0 ∷ 0 ∷ 0 ∷ 0 ∷ 0 ∷ 0 ∷ 0 ∷ 0 ∷ 0 ∷ 0 ∷ 0 ∷ 0
-    ∷ 0 ∷ 0 ∷ 0 ∷ 0 ∷ 0 ∷ 0 ∷ 0 ∷ 0 ∷ 0 ∷ 0 ∷ 0 ∷ 0 ∷ 0 ∷ 0 ∷ 0 ∷ 0 ∷ []
+    Other ∷ Other ∷ Other ∷ Other ∷ Other ∷ Other ∷ Other ∷ Other ∷ Other ∷ Blank ∷ LineEnd ∷ Other ∷ Other ∷ LineEnd ∷ Other ∷ Other
+    ∷ Other ∷ Other ∷ Other ∷ Other ∷ Other ∷ Other ∷ Other ∷ Other ∷ Other ∷ Other ∷ Other ∷ Other ∷ Other ∷ Other ∷ Other ∷ Other
+    ∷ Blank ∷ Other ∷ Double ∷ Hash ∷ Dollar ∷ Other ∷ Other ∷ Single ∷ Other ∷ Other ∷ Other ∷ Other ∷ Other ∷ Other ∷ Identifier ∷ Other
+    ∷ Identifier ∷ Identifier ∷ Identifier ∷ Identifier ∷ Identifier ∷ Identifier ∷ Identifier ∷ Identifier ∷ Identifier ∷ Identifier ∷ Colon ∷ Other ∷ Other ∷ Equals ∷ Other ∷ Other
+    ∷ Other ∷ Identifier ∷ Identifier ∷ Identifier ∷ Identifier ∷ Identifier ∷ Identifier ∷ Identifier ∷ Identifier ∷ Identifier ∷ Identifier ∷ Identifier ∷ Identifier ∷ Identifier ∷ Identifier ∷ Identifier
+    ∷ Identifier ∷ Identifier ∷ Identifier ∷ Identifier ∷ Identifier ∷ Identifier ∷ Identifier ∷ Identifier ∷ Identifier ∷ Identifier ∷ Identifier ∷ Other ∷ Backslash ∷ Other ∷ Other ∷ Identifier
+    ∷ Other ∷ Identifier ∷ Identifier ∷ Identifier ∷ Identifier ∷ Identifier ∷ Identifier ∷ Identifier ∷ Identifier ∷ Identifier ∷ Identifier ∷ Identifier ∷ Identifier ∷ Identifier ∷ Identifier ∷ Identifier
+    ∷ Identifier ∷ Identifier ∷ Identifier ∷ Identifier ∷ Identifier ∷ Identifier ∷ Identifier ∷ Identifier ∷ Identifier ∷ Identifier ∷ Identifier ∷ OpenBrace ∷ Other ∷ CloseBrace ∷ Other ∷ Other
+    ∷ Other ∷ Other ∷ Other ∷ Other ∷ Other ∷ Other ∷ Other ∷ Other ∷ Other ∷ Other ∷ Other ∷ Other ∷ Other ∷ Other ∷ Other ∷ Other
+    ∷ Other ∷ Other ∷ Other ∷ Other ∷ Other ∷ Other ∷ Other ∷ Other ∷ Other ∷ Other ∷ Other ∷ Other ∷ Other ∷ Other ∷ Other ∷ Other
+    ∷ Other ∷ Other ∷ Other ∷ Other ∷ Other ∷ Other ∷ Other ∷ Other ∷ Other ∷ Other ∷ Other ∷ Other ∷ Other ∷ Other ∷ Other ∷ Other
+    ∷ Other ∷ Other ∷ Other ∷ Other ∷ Other ∷ Other ∷ Other ∷ Other ∷ Other ∷ Other ∷ Other ∷ Other ∷ Other ∷ Other ∷ Other ∷ Other
+    ∷ Other ∷ Other ∷ Other ∷ Other ∷ Other ∷ Other ∷ Other ∷ Other ∷ Other ∷ Other ∷ Other ∷ Other ∷ Other ∷ Other ∷ Other ∷ Other
+    ∷ Other ∷ Other ∷ Other ∷ Other ∷ Other ∷ Other ∷ Other ∷ Other ∷ Other ∷ Other ∷ Other ∷ Other ∷ Other ∷ Other ∷ Other ∷ Other
+    ∷ Other ∷ Other ∷ Other ∷ Other ∷ Other ∷ Other ∷ Other ∷ Other ∷ Other ∷ Other ∷ Other ∷ Other ∷ Other ∷ Other ∷ Other ∷ Other
+    ∷ Other ∷ Other ∷ Other ∷ Other ∷ Other ∷ Other ∷ Other ∷ Other ∷ Other ∷ Other ∷ Other ∷ Other ∷ Other ∷ Other ∷ Other ∷ Other ∷ []
 
--- the rule of the entry x at place b: it is the number of b's class, and the test of the class c is true exactly where that is c's number
-right : Class → ℕ → ℕ → Bool
-right c b x = both (eqb x (class_number (class b))) (agrees c b)
+-- the rule of the entry x at place b: it is b's class, and the test of the class c is true exactly where that is c's number
+right : Class → ℕ → ByteClass → Bool
+right c b x = both (eqb (number_of x) (class_number (class b))) (agrees c b)
 
 -- the table's rule, computed over all 256 entries
 ruled : (c : Class) → T (every (right c) 0 table)
@@ -109,9 +111,11 @@ ruled colon = tt
 ruled single = tt
 ruled double = tt
 
-pub entry : (b : ℕ) → b < 256 → get_or table b 0 ≡ class_number (class b)
+pub entry : (b : ℕ) → b < 256 → number_of (get_or table b Other) ≡ class_number (class b)
 unfolding right
-entry b h = eqb→eq (get_or table b 0) (class_number (class b)) (both_left (eqb (get_or table b 0) (class_number (class b))) (agrees other b) (at (right other) table (ruled other) b h))
+entry b h =
+    eqb→eq (number_of (get_or table b Other)) (class_number (class b))
+    (both_left (eqb (number_of (get_or table b Other)) (class_number (class b))) (agrees other b) (at (right other) table Other (ruled other) b h))
 
 -- a number that is no byte passes no test
 module _ (b : ℕ) (h : 256 ≤ b) where
@@ -180,7 +184,7 @@ tests c b = go (ltb b 256) refl
     go : (t : Bool) → ltb b 256 ≡ t → test c b ≡ eqb (class_number (class b)) (class_number c)
     go true e =
         same-eq (test c b) (eqb (class_number (class b)) (class_number c))
-        (both_right (eqb (get_or table b 0) (class_number (class b))) (agrees c b) (at (right c) table (ruled c) b (ltb-true b 256 e)))
+        (both_right (eqb (number_of (get_or table b Other)) (class_number (class b))) (agrees c b) (at (right c) table Other (ruled c) b (ltb-true b 256 e)))
     go false e = beyond b (ltb-false b 256 e) c
 
 -- where the class number is k, the test of the class is true, and elsewhere false
@@ -234,6 +238,39 @@ not-past text i n = go (ltb i (length text)) refl
     go true f = ltb-true i (length text) f
     go false f = absurd (n (class-past text i (ltb-false i (length text) f)))
 
--- the constant table is such a table
-pub is_table : ClassTable table
-is_table = record { right = entry }
+-- a number tells the code's class too
+unfoldable by_code : ℕ → ByteClass
+by_code n =
+    pick (eqb n 0) Other
+    (pick (eqb n 1) Identifier
+    (pick (eqb n 3) Blank
+    (pick (eqb n 4) Equals
+    (pick (eqb n 5) Colon
+    (pick (eqb n 6) Single
+    (pick (eqb n 7) Double
+    (pick (eqb n 8) Backslash
+    (pick (eqb n 9) LineEnd
+    (pick (eqb n 10) Dollar
+    (pick (eqb n 11) Hash
+    (pick (eqb n 12) OpenBrace
+    (pick (eqb n 13) CloseBrace Past))))))))))))
+
+by_code_lem : (k : ByteClass) → by_code (number_of k) ≡ k
+unfolding by_code pick
+by_code_lem Other = refl
+by_code_lem Identifier = refl
+by_code_lem Blank = refl
+by_code_lem Equals = refl
+by_code_lem Colon = refl
+by_code_lem Single = refl
+by_code_lem Double = refl
+by_code_lem Backslash = refl
+by_code_lem LineEnd = refl
+by_code_lem Dollar = refl
+by_code_lem Hash = refl
+by_code_lem OpenBrace = refl
+by_code_lem CloseBrace = refl
+by_code_lem Past = refl
+
+pub named : (k j : ByteClass) → number_of k ≡ number_of j → k ≡ j
+named k j e = sym (by_code_lem k) ∙ ap by_code e ∙ by_code_lem j

@@ -3,5 +3,5 @@ pub mod Classes
 pub mod Lists
 pub mod Stores
 pub mod Littles
-pub mod Orders
+pub mod Compares
 pub mod Bits

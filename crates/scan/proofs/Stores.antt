@@ -7,7 +7,9 @@ use native.Mathlib.Nat.{add-zero, zero-add, add_assoc}
 use native.Mathlib.Omega.{arith}
 use native.Mathlib.Numerals.{add-one}
 use lib.ListN.{length, get_or, take, drop, set, replicate, length-append, length-drop, length-replicate, get_or-append}
-use lib.Seq.{sets, sets-eq, length-sets, length-take-le, drop_at, take-set-le, drop-set-lt, take-set-lt, drop-set-add, get_or-take, get_or-drop, set_comm, drop-append_seam}
+use borrow.Rule.Slice.PartMut.{put_mid}
+use Rattle.std.specs.List.{copy_within}
+use lib.Seq.{drop-drop, sets, sets-eq, length-sets, length-take-le, drop_at, take-set-le, drop-set-lt, take-set-lt, drop-set-add, get_or-take, get_or-drop, set_comm, drop-append_seam}
 use Rattle.rules.specs.Bytes.{overwrite}
 use Rattle.scan.specs.Stores.{puts}
 use Rattle.scan.proofs.Lists.{rest_at}
@@ -138,3 +140,16 @@ zero_more l at m i h = let e : m - i ≡ suc (m - (i + 1)) = omega arith in rw (
 
 pub zeros-front : (l : List ℕ) (m : ℕ) → m ≤ length l → puts l 0 (replicate m 0) ≡ overwrite (replicate m 0) l
 zeros-front l m h = puts-front l (replicate m 0) (omega (arith, length-replicate {A = ℕ} m 0))
+
+-- a part of a list that was written is a run of stores
+pub put_mid-puts : (l : List ℕ) (i k : ℕ) (vs us : List ℕ) → vs ≡ us → length us ≡ k → i + k ≤ length l → put_mid i k l vs ≡ puts l i us
+put_mid-puts l i k vs us e q h = rw (e, puts-eq l i us (omega arith), append_assoc (take i l) us (drop (i + length us) l), q, ← drop-drop k i l)
+
+-- what was copied within a list is a run of stores
+pub copied-puts : (d : List ℕ) (i j at n : ℕ) → i + n ≡ j → j ≤ length d → at + n ≤ length d → copy_within d i j at ≡ puts d at (take n (drop i d))
+copied-puts d i j at n e h r =
+    let m : j - i ≡ n = omega arith in
+    let l : length (take n (drop i d)) ≡ n = length-take-le n (drop i d) (omega (arith, length-drop i d)) in
+    rw (m, puts-eq d at (take n (drop i d)) (omega arith), l)
+
+pub ruleset stores = (put_mid-puts, copied-puts)

@@ -1,4 +1,4 @@
 pub mod Classes
 pub mod Stores
-pub mod Orders
+pub mod ByteOrder
 pub mod Bits

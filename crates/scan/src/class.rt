@@ -1,80 +1,88 @@
 // The class of each byte value, from one constant table (document 01, "Lexing").
 ghost use Rattle.std.specs.Prelude.{◌≡◌, drop};
 ghost use Rattle.rules.specs.Lexing.{class, is_identifier};
-ghost use Rattle.scan.specs.Classes.{class_number, class_at, ClassTable};
+ghost use Rattle.scan.specs.Classes.{class_number, class_at, number_of};
 
-// The numbers of the classes. 3 to 9 are the kinds of the tokens that such a byte makes.
-#[derive(Clone, Copy)]
-pub struct ByteClass;
+use ByteClass::{
+    Backslash, Blank, CloseBrace, Colon, Dollar, Double, Equals, Hash, Identifier, LineEnd,
+    OpenBrace, Other, Past, Single,
+};
 
-impl ByteClass {
-    pub const OTHER: u8 = 0;
-
-    pub const IDENTIFIER: u8 = 1;
-
-    pub const BLANK: u8 = 3;
-
-    pub const EQUALS: u8 = 4;
-
-    pub const COLON: u8 = 5;
-
-    pub const SINGLE: u8 = 6;
-
-    pub const DOUBLE: u8 = 7;
-
-    pub const BACKSLASH: u8 = 8;
-
-    pub const LINE_END: u8 = 9;
-
-    pub const DOLLAR: u8 = 10;
-
-    pub const HASH: u8 = 11;
-
-    pub const OPEN_BRACE: u8 = 12;
-
-    pub const CLOSE_BRACE: u8 = 13;
-
+// The classes, for which the rules have their names. Identifier bytes and other ones are text by themselves.
+#[derive(Clone, Copy, Debug, PartialEq, Eq)]
+pub enum ByteClass {
+    Other,
+    Identifier,
+    Blank,
+    Equals,
+    Colon,
+    Single,
+    Double,
+    Backslash,
+    LineEnd,
+    Dollar,
+    Hash,
+    OpenBrace,
+    CloseBrace,
     // the end of the text
-    pub const PAST: u8 = 15;
+    Past,
 }
 
-pub const CLASS: [u8; 256] = [
+// The class of each byte, by its value.
+pub static CLASS: [ByteClass; 256] = [
     // 0x00 to 0x0F
-    0, 0, 0, 0, 0, 0, 0, 0, 0, 3, 9, 0, 0, 9, 0, 0,
+    Other, Other, Other, Other, Other, Other, Other, Other, Other, Blank, LineEnd, Other, Other,
+    LineEnd, Other, Other,
     // 0x10 to 0x1F
-    0, 0, 0, 0, 0, 0, 0, 0, 0, 0, 0, 0, 0, 0, 0, 0,
+    Other, Other, Other, Other, Other, Other, Other, Other, Other, Other, Other, Other, Other,
+    Other, Other, Other,
     // 0x20 to 0x2F
-    3, 0, 7, 11, 10, 0, 0, 6, 0, 0, 0, 0, 0, 0, 1, 0,
+    Blank, Other, Double, Hash, Dollar, Other, Other, Single, Other, Other, Other, Other, Other,
+    Other, Identifier, Other,
     // 0x30 to 0x3F
-    1, 1, 1, 1, 1, 1, 1, 1, 1, 1, 5, 0, 0, 4, 0, 0,
+    Identifier, Identifier, Identifier, Identifier, Identifier, Identifier, Identifier, Identifier,
+    Identifier, Identifier, Colon, Other, Other, Equals, Other, Other,
     // 0x40 to 0x4F
-    0, 1, 1, 1, 1, 1, 1, 1, 1, 1, 1, 1, 1, 1, 1, 1,
+    Other, Identifier, Identifier, Identifier, Identifier, Identifier, Identifier, Identifier,
+    Identifier, Identifier, Identifier, Identifier, Identifier, Identifier, Identifier, Identifier,
     // 0x50 to 0x5F
-    1, 1, 1, 1, 1, 1, 1, 1, 1, 1, 1, 0, 8, 0, 0, 1,
+    Identifier, Identifier, Identifier, Identifier, Identifier, Identifier, Identifier, Identifier,
+    Identifier, Identifier, Identifier, Other, Backslash, Other, Other, Identifier,
     // 0x60 to 0x6F
-    0, 1, 1, 1, 1, 1, 1, 1, 1, 1, 1, 1, 1, 1, 1, 1,
+    Other, Identifier, Identifier, Identifier, Identifier, Identifier, Identifier, Identifier,
+    Identifier, Identifier, Identifier, Identifier, Identifier, Identifier, Identifier, Identifier,
     // 0x70 to 0x7F
-    1, 1, 1, 1, 1, 1, 1, 1, 1, 1, 1, 12, 0, 13, 0, 0,
+    Identifier, Identifier, Identifier, Identifier, Identifier, Identifier, Identifier, Identifier,
+    Identifier, Identifier, Identifier, OpenBrace, Other, CloseBrace, Other, Other,
     // 0x80 to 0x8F
-    0, 0, 0, 0, 0, 0, 0, 0, 0, 0, 0, 0, 0, 0, 0, 0,
+    Other, Other, Other, Other, Other, Other, Other, Other, Other, Other, Other, Other, Other,
+    Other, Other, Other,
     // 0x90 to 0x9F
-    0, 0, 0, 0, 0, 0, 0, 0, 0, 0, 0, 0, 0, 0, 0, 0,
+    Other, Other, Other, Other, Other, Other, Other, Other, Other, Other, Other, Other, Other,
+    Other, Other, Other,
     // 0xA0 to 0xAF
-    0, 0, 0, 0, 0, 0, 0, 0, 0, 0, 0, 0, 0, 0, 0, 0,
+    Other, Other, Other, Other, Other, Other, Other, Other, Other, Other, Other, Other, Other,
+    Other, Other, Other,
     // 0xB0 to 0xBF
-    0, 0, 0, 0, 0, 0, 0, 0, 0, 0, 0, 0, 0, 0, 0, 0,
+    Other, Other, Other, Other, Other, Other, Other, Other, Other, Other, Other, Other, Other,
+    Other, Other, Other,
     // 0xC0 to 0xCF
-    0, 0, 0, 0, 0, 0, 0, 0, 0, 0, 0, 0, 0, 0, 0, 0,
+    Other, Other, Other, Other, Other, Other, Other, Other, Other, Other, Other, Other, Other,
+    Other, Other, Other,
     // 0xD0 to 0xDF
-    0, 0, 0, 0, 0, 0, 0, 0, 0, 0, 0, 0, 0, 0, 0, 0,
+    Other, Other, Other, Other, Other, Other, Other, Other, Other, Other, Other, Other, Other,
+    Other, Other, Other,
     // 0xE0 to 0xEF
-    0, 0, 0, 0, 0, 0, 0, 0, 0, 0, 0, 0, 0, 0, 0, 0,
+    Other, Other, Other, Other, Other, Other, Other, Other, Other, Other, Other, Other, Other,
+    Other, Other, Other,
     // 0xF0 to 0xFF
-    0, 0, 0, 0, 0, 0, 0, 0, 0, 0, 0, 0, 0, 0, 0, 0,
+    Other, Other, Other, Other, Other, Other, Other, Other, Other, Other, Other, Other, Other,
+    Other, Other, Other,
 ];
 
-pub fn class_of(b: u8) -> u8
-    ensures { result ≡ class_number (class b) }
+// The class of a byte.
+pub fn class_of(b: u8) -> ByteClass
+    ensures { number_of result ≡ class_number (class b) }
 {
     CLASS[b as usize]
 }
@@ -83,36 +91,16 @@ pub fn class_of(b: u8) -> u8
 pub fn is_valid_identifier(b: u8) -> bool
     ensures { result ≡ is_identifier b }
 {
-    class_of(b) == ByteClass::IDENTIFIER
+    matches!(class_of(b), Identifier)
 }
 
 // The class of the byte at place i; at the end of the text and past it a class of its own.
-pub fn class_at(text: &[u8], i: usize) -> u8
-    ensures { result ≡ class_at (drop i text.now) }
+pub fn class_at(text: &[u8], i: usize) -> ByteClass
+    ensures { number_of result ≡ class_at (drop i text.now) }
 {
     if i < text.len() {
         class_of(text[i])
     } else {
-        ByteClass::PAST
-    }
-}
-
-// The class of a byte by a table that is lent: a constant array is made anew wherever it is named, so a loop is lent one.
-pub fn class_in(table: &[u8; 256], b: u8) -> u8
-    requires { ClassTable table.now }
-    ensures { result ≡ class_number (class b) }
-{
-    table[b as usize]
-}
-
-// As `class_at`, by such a table.
-pub fn class_by(table: &[u8; 256], text: &[u8], i: usize) -> u8
-    requires { ClassTable table.now }
-    ensures { result ≡ class_at (drop i text.now) }
-{
-    if i < text.len() {
-        class_in(table, text[i])
-    } else {
-        ByteClass::PAST
+        Past
     }
 }

@@ -1,25 +1,27 @@
-// Parts of lent memory, and cells of its columns.
-ghost use Rattle.std.specs.Prelude.{◌≡◌, ◌+◌, ◌≤◌, length, take, drop, get_or};
+// Parts of lent memory, its columns, and their entries.
+ghost use Rattle.std.specs.Prelude.{◌≡◌, ◌+◌, ◌≤◌, ◌<◌, length, take, drop, get_or};
 
 // The `len` bytes from `start` on: as many of them as there are, so it asks nothing.
 pub fn part(bytes: &[u8], start: usize, len: usize) -> &[u8]
     ensures { result.now ≡ take len (drop start bytes.now) }
 {
-    let n = bytes.len();
-    if n <= start {
-        return &bytes[n..n];
-    }
-    if n - start <= len {
-        return &bytes[start..n];
-    }
-    let e = start + len;
-    &bytes[start..e]
+    let rest = bytes.get(start..).unwrap_or(&[]);
+    rest.get(..len).unwrap_or(rest)
 }
 
-// Entry k of the column of n entries at base, which is inside; 0 past its end.
-pub fn cell(ws: &[u32], base: usize, n: usize, k: usize) -> usize
+// The column of n entries at base, which is inside.
+pub fn column(ws: &[u32], base: usize, n: usize) -> &[u32]
     requires { base + n ≤ length ws.now }
-    ensures { result ≡ get_or (take n (drop base ws.now)) k 0 }
+    ensures { result.now ≡ take n (drop base ws.now) }
 {
-    if k < n { ws[base + k] as usize } else { 0 }
+    let end = base + n;
+    &ws[base..end]
+}
+
+// Entry k of a column; 0 past its end.
+pub fn entry(column: &[u32], k: usize) -> usize
+    ensures value { result ≡ get_or column.now k 0 }
+    ensures small { result < 4294967296 }
+{
+    column.get(k).copied().unwrap_or(0) as usize
 }

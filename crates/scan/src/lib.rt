@@ -1,8 +1,7 @@
-// Leaves that all layers share: the class of a byte, stores into lent memory, numbers as bytes, parts and cells, byte order.
-#![tactic(auto)]
+// Leaves that all layers share: the class of a byte, stores into lent memory, numbers as bytes, parts and columns.
+#![tactic(auto, using(crate::proofs::Stores::stores))]
 
 pub mod class;
 pub mod column;
 pub mod little;
-pub mod order;
 pub mod store;

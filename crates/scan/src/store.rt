@@ -8,19 +8,8 @@ pub fn copy(from: &[u8], to: &mut [u8], at: usize)
     requires { at + length from.now ≤ length to.old }
     ensures { to.new ≡ puts to.old at from.now }
 {
-    let mut i = 0;
-    while i < from.len() {
-        to[at + i] = from[i];
-        i += 1;
-    }
-}
-
-// The `len` bytes of `from` from `start` on, as many of them as there are, go to `to` from place `at` on.
-pub fn copy_part(from: &[u8], start: usize, len: usize, to: &mut [u8], at: usize)
-    requires { at + len ≤ length to.old }
-    ensures { to.new ≡ puts to.old at (take len (drop start from.now)) }
-{
-    copy(crate::column::part(from, start, len), to, at);
+    let end = at + from.len();
+    to[at..end].copy_from_slice(from);
 }
 
 // The `len` bytes from place `from` on go to place `at`, which is past them.
@@ -28,11 +17,7 @@ pub fn copy_within(out: &mut [u8], from: usize, len: usize, at: usize)
     requires { (from + len ≤ at) × (at + len ≤ length out.old) }
     ensures { out.new ≡ puts out.old at (take len (drop from out.old)) }
 {
-    let mut i = 0;
-    while i < len {
-        out[at + i] = out[from + i];
-        i += 1;
-    }
+    out.copy_within(from..from + len, at);
 }
 
 // `count` entries become 0, from place `at` on.
@@ -40,11 +25,8 @@ pub fn zero_from(ws: &mut [u32], at: usize, count: usize)
     requires { at + count ≤ length ws.old }
     ensures { ws.new ≡ puts ws.old at (replicate count 0) }
 {
-    let mut i = 0;
-    while i < count {
-        ws[at + i] = 0;
-        i += 1;
-    }
+    let end = at + count;
+    ws[at..end].fill(0);
 }
 
 // The first `count` entries become 0.
@@ -60,11 +42,9 @@ pub fn put4(ws: &mut [u32], at: usize, a: u32, b: u32, c: u32, d: u32)
     requires { at + 4 ≤ length ws.old }
     ensures { ws.new ≡ puts ws.old at (a ∷ b ∷ c ∷ d ∷ []) }
 {
+    // Kept: four stores. `copy_from_slice` of an array of the four is slower, as the array is made first.
     ws[at] = a;
-    let p = at + 1;
-    ws[p] = b;
-    let q = p + 1;
-    ws[q] = c;
-    let r = q + 1;
-    ws[r] = d;
+    ws[at + 1] = b;
+    ws[at + 2] = c;
+    ws[at + 3] = d;
 }

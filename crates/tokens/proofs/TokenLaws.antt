@@ -1,17 +1,19 @@
 -- Laws of reading tokens: each by its entries. Assumes nothing.
 use Prim.Native.Nat.{ℕ, zero, suc, ◌+◌, ◌*◌, ◌%◌, ◌≤◌, ◌<◌}
-use mathlib.Core.Path.{◌≡◌, refl, ap, sym, ◌∙◌}
+use mathlib.Core.Path.{◌≡◌, refl, ap, sym, ◌∙◌, subst}
 use mathlib.Core.Bool.{Bool, true, false}
 use mathlib.Core.List.{List, [], ◌∷◌, ◌++◌, map, append_assoc, append-nil}
 use native.Mathlib.Omega.{arith}
 use native.Mathlib.Decide.{dec_lt}
 use native.Mathlib.Numerals.{add-one}
-use lib.ListN.{length, take, drop, get_or, set, drop_of_length-le, length-append}
+use lib.ListN.{length, length-take, take, drop, get_or, set, drop_of_length-le, length-append}
 use lib.Seq.{get_or-drop, drop-cons}
-use lib.Dec.{leb}
+use lib.Dec.{leb, ltb}
 use borrow.Author.Tests.{lt-ltb, le-ltb, lt-leb, le-leb}
 use Rattle.rules.specs.Bytes.{pick}
 use Rattle.rules.specs.Tokens.{Token, token, pooled, no_name}
+use Rattle.answers.specs.declared.Name.{Name}
+use Rattle.answers.specs.Tells.{Names}
 use Rattle.scan.specs.Stores.{puts}
 use Rattle.scan.proofs.Stores.{get_or-puts-below}
 use Rattle.tokens.specs.Entries.{entry, entries, from_entry, decode, token_at, pool_text, byte_of, kinds, kind_at, place_at, source_at, byte_at, entry_at}
@@ -226,3 +228,60 @@ pub length-entries : (ts : List Token) → length (entries ts) ≡ 4 * length ts
 unfolding entries entry
 length-entries [] = refl
 length-entries (t ∷ ts) = omega (arith, length-append (entry t) (entries ts), length-entries ts)
+
+-- a text's length fits an entry
+module _ (count : ℕ) (ws pool : List ℕ) (j : ℕ) where
+  pub name-small : get_or ws (4 * j + 2) 0 ≤ 4294967295 → (len : ℕ) → len ≡ length (token_at (decode count ws pool) j).text → len < 4294967296
+  unfolding from_entry token pick
+  name-small h len e =
+      let x : length (token_at (decode count ws pool) j).text < 4294967296 = rw (token-by count ws pool j) (go (leb (entry_at count ws j 0) 2) (entry (ltb j count))) in
+      omega (arith, e, x)
+    where
+      entry : (b : Bool) → pick b (get_or ws (4 * j + 2) 0) 0 < 4294967296
+      entry true = omega (arith, h)
+      entry false = omega arith
+
+      go : (b : Bool) → entry_at count ws j 2 < 4294967296 → length (pick b (take (entry_at count ws j 2) (drop (entry_at count ws j 1) pool)) (entry_at count ws j 1 % 256 ∷ [])) < 4294967296
+      go true l = omega (arith, length-take (entry_at count ws j 2) (drop (entry_at count ws j 1) pool))
+      go false l = omega arith
+
+  pub names-token : (place len : ℕ) → place ≡ place_at count ws j → len ≡ length (token_at (decode count ws pool) j).text → Names (record { place = place; length = len }) (token_at (decode count ws pool) j)
+  names-token place len p l = record { is_place = p ∙ place_at_lem count ws pool j; is_length = l }
+
+-- the tokens before the end-th
+pub decode-take : (end count : ℕ) (ws pool : List ℕ) → end ≤ count → decode end ws pool ≡ take end (decode count ws pool)
+unfolding decode
+decode-take zero count ws pool h = refl
+decode-take (suc e) zero ws pool h = absurd (omega arith)
+decode-take (suc e) (suc c) ws pool h = ap (λ (l : List Token). from_entry (get_or ws 0 0) (get_or ws 1 0) (get_or ws 2 0) (get_or ws 3 0) pool ∷ l) (decode-take e c (drop 4 ws) pool (omega arith))
+
+-- what a table answers, by its list
+module _ (count : ℕ) (ws pool : List ℕ) (ts : List Token) (v : decode count ws pool ≡ ts) where
+  pub table-len : count ≡ length ts
+  table-len = sym (length-decode count ws pool) ∙ ap length v
+
+  pub table-kind : (j k : ℕ) → k ≡ kind_at count ws j → k ≡ (token_at ts j).kind
+  table-kind j k e = e ∙ kind-at count ws pool j ∙ ap (λ (l : List Token). (token_at l j).kind) v
+
+  pub table-source : (j k : ℕ) → k ≡ source_at count ws j → k ≡ (token_at ts j).source
+  table-source j k e = e ∙ source-at count ws pool j ∙ ap (λ (l : List Token). (token_at l j).source) v
+
+  pub table-place : (j k : ℕ) → k ≡ place_at count ws j → k ≡ (token_at ts j).place
+  table-place j k e = e ∙ place_at_lem count ws pool j ∙ ap (λ (l : List Token). (token_at l j).place) v
+
+  pub table-byte : (j k : ℕ) → k ≡ byte_at count ws j → k ≡ byte_of (token_at ts j)
+  table-byte j k e = e ∙ byte-at count ws pool j ∙ ap (λ (l : List Token). byte_of (token_at l j)) v
+
+  pub table-name : (j : ℕ) (r : Name) → Names r (token_at (decode count ws pool) j) → Names r (token_at ts j)
+  table-name j r h = subst (λ (l : List Token). Names r (token_at l j)) v h
+
+  pub table-fits : (end : ℕ) → 4 * count ≤ length ws → end ≤ length ts → 4 * end ≤ length ws
+  table-fits end h k = let l = table-len in omega arith
+
+  pub table-until : (end : ℕ) → end ≤ length ts → decode end ws pool ≡ take end ts
+  table-until end k = let l = table-len in decode-take end count ws pool (omega arith) ∙ ap (take end) v
+
+-- what the functions that read tokens are proved by
+pub ruleset reading = (entry_in, entry_past, reads-kind, reads-source, reads-place, reads-no-place, reads-no-byte, reads-text, reads-no-text, reads-one)
+
+pub ruleset tables = (table-len, table-kind, table-source, table-place, table-byte, table-name, table-fits, table-until)

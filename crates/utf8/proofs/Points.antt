@@ -6,12 +6,12 @@ use mathlib.Core.List.{List, [], ◌∷◌}
 use mathlib.Core.Option.{none, some}
 use native.Mathlib.Omega.{arith}
 use native.Mathlib.Numerals.{add-one}
-use lib.ListN.{length, get_or, drop, length-replicate, drop_of_length-le, get_or-eq_default}
+use lib.ListN.{length, get_or, take, drop, length-replicate, get_or-eq_default}
 use lib.Seq.{drop-cons}
 use Rattle.rules.specs.Bytes.{within}
 use Rattle.rules.specs.Utf8.{Range, ◌to◌, rows, in_range, due_after, leading, trailing, code_point}
 use Rattle.utf8.specs.declared.Due.{Due}
-use Rattle.utf8.specs.declared.Due.TheVariants.{Bytes, Never}
+use Rattle.std.specs.Prelude as Std
 use Rattle.utf8.specs.Dues.{ranges, due_of}
 use Rattle.utf8.proofs.Rows.{rest-ranges}
 
@@ -90,13 +90,14 @@ unfolding trailing ranges
 bits_none zero n bs e = refl
 bits_none (suc left) n bs e = absurd (omega arith)
 
-pub bits-end : (text : List ℕ) (i left n : ℕ) → length text ≤ i → trailing (ranges left 0x80 0xBF) n (drop i text) ≡ n
+-- bytes past those due add nothing, and where the text ends there are fewer
+pub bits_part : (k n : ℕ) (bs : List ℕ) → trailing (ranges (length (take k bs)) 0x80 0xBF) n (take k bs) ≡ trailing (ranges k 0x80 0xBF) n bs
 unfolding trailing ranges
-bits-end text i left n h = rw (drop_of_length-le text h) (go left)
-  where
-    go : (left : ℕ) → trailing (ranges left 0x80 0xBF) n [] ≡ n
-    go zero = refl
-    go (suc left) = refl
+bits_part zero n bs = refl
+bits_part (suc k) n [] = refl
+bits_part (suc k) n (b ∷ bs) =
+    ap (λ (due : List Range). trailing due (n * 0x40 + (b - 0x80)) (take k bs)) (rest-ranges (length (take k bs))) ∙ bits_part k (n * 0x40 + (b - 0x80)) bs
+    ∙ sym (ap (λ (due : List Range). trailing due (n * 0x40 + (b - 0x80)) bs) (rest-ranges k))
 
 -- no row has more than three bytes due
 abbrev Short : List (List Range) → Type 0
@@ -120,23 +121,25 @@ ranges-length zero low high = refl
 ranges-length (suc count) low high = ap suc (length-replicate count (0x80 to 0xBF))
 
 -- what a byte's row d says
-module _ (b : ℕ) (d : Due) (e : due_of d ≡ due_after b rows) where
-  pub few : (count low high : ℕ) → d ≡ Bytes count low high → count ≤ 3
+module _ (b : ℕ) (d : Std.Option Due) (e : due_of d ≡ due_after b rows) where
+  pub few : (x : Due) → d ≡ Std.Some x → x.count ≤ 3
   unfolding due_of rows
-  few count low high m =
-      let s : due_after b rows ≡ some (ranges count low high) = sym e ∙ ap due_of m in
-      omega (arith, short b rows (ranges count low high) (omega arith) s, ranges-length count low high)
+  few x m =
+      let due = ranges x.count x.low x.high in
+      let s : due_after b rows ≡ some due = sym e ∙ ap due_of m in
+      omega (arith, short b rows due (omega arith) s, ranges-length x.count x.low x.high)
 
-  pub point-never : (bs : List ℕ) → d ≡ Never → b ≡ code_point b bs
+  pub point-never : (bs : List ℕ) → d ≡ Std.None → b ≡ code_point b bs
   unfolding due_of code_point
   point-never bs m = let s : due_after b rows ≡ none = sym e ∙ ap due_of m in rw (s, code_point)
 
-  pub point-bytes : (bs : List ℕ) (count low high : ℕ) → d ≡ Bytes count low high
-      → trailing (ranges count 0x80 0xBF) (leading (ranges count 0x80 0xBF) b) bs ≡ code_point b bs
+  pub point-bytes : (bs : List ℕ) (x : Due) → d ≡ Std.Some x
+      → trailing (ranges x.count 0x80 0xBF) (leading (ranges x.count 0x80 0xBF) b) bs ≡ code_point b bs
   unfolding due_of code_point
-  point-bytes bs count low high m =
-      let s : due_after b rows ≡ some (ranges count low high) = sym e ∙ ap due_of m in
-      rw (s, code_point) (sym (trailing-same count low high (leading (ranges count low high) b) bs ∙ ap (λ (c : ℕ). trailing (ranges count 0x80 0xBF) c bs) (leading-same count low high b)))
+  point-bytes bs x m =
+      let s : due_after b rows ≡ some (ranges x.count x.low x.high) = sym e ∙ ap due_of m in
+      rw (s, code_point)
+      (sym (trailing-same x.count x.low x.high (leading (ranges x.count x.low x.high) b) bs ∙ ap (λ (c : ℕ). trailing (ranges x.count 0x80 0xBF) c bs) (leading-same x.count x.low x.high b)))
 
 pub point-past : (text : List ℕ) (i : ℕ) → length text ≤ i → 0 ≡ code_point (get_or text i 0) (drop (i + 1) text)
 unfolding code_point due_after rows ◌to◌ in_range within trailing leading

@@ -13,7 +13,7 @@ use borrow.Author.Tests.{le-leb, lt-leb, ne_eqb}
 use Rattle.rules.specs.Bytes.{within}
 use Rattle.rules.specs.Utf8.{Range, ◌to◌, rows, in_range, due_after, follows, well_formed}
 use Rattle.utf8.specs.declared.Due.{Due}
-use Rattle.utf8.specs.declared.Due.TheVariants.{Bytes, Never}
+use Rattle.std.specs.Prelude as Std
 use Rattle.utf8.specs.Dues.{ranges, due_of, after}
 
 pub in-range : (low high b : ℕ) → low ≤ b → b ≤ high → in_range (low to high) b ≡ true
@@ -66,7 +66,7 @@ unfolding due_after
 row b front low high due rest h l k = skip b front ((low to high ∷ due) ∷ rest) h ∙ rw (in-range low high b l k, due_after)
 
 -- the row of characters of two bytes
-pub two_byte_row : (b : ℕ) → 0xC2 ≤ b → b ≤ 0xDF → due_of (Bytes 1 0x80 0xBF) ≡ due_after b rows
+pub two_byte_row : (b : ℕ) → 0xC2 ≤ b → b ≤ 0xDF → due_of (Std.Some (record { count = 1; low = 0x80; high = 0xBF })) ≡ due_after b rows
 unfolding due_of ranges rows ◌to◌
 two_byte_row b l h = sym (row b (take 1 rows) 0xC2 0xDF (ranges 1 0x80 0xBF) (drop 2 rows) (omega arith) l h)
 
@@ -115,17 +115,17 @@ after-byte (r ∷ due) b bs = go (in_range r b)
     go false = refl
 
 -- a turn of goes_by_rows: d is what is due after the byte at i
-module _ (text : List ℕ) (i count low high : ℕ) (d : Due) (h : i < length text) (e : due_of d ≡ after (ranges count low high) (get_or text i 0)) where
+module _ (text : List ℕ) (i count low high : ℕ) (d : Std.Option Due) (h : i < length text) (e : due_of d ≡ after (ranges count low high) (get_or text i 0)) where
   turn : goes_on (due_of d) (drop (i + 1) text) ≡ follows (ranges count low high) (drop i text)
   turn = rw (add-one, drop-cons text i 0 h, after-byte (ranges count low high) (get_or text i 0) (drop (suc i) text), e)
 
-  pub turn-never : d ≡ Never → false ≡ follows (ranges count low high) (drop i text)
+  pub turn-never : d ≡ Std.None → false ≡ follows (ranges count low high) (drop i text)
   unfolding goes_on due_of
   turn-never m = rw m at turn
 
-  pub turn-bytes : (c l g : ℕ) → d ≡ Bytes c l g → follows (ranges c l g) (drop (i + 1) text) ≡ follows (ranges count low high) (drop i text)
+  pub turn-bytes : (x : Due) → d ≡ Std.Some x → follows (ranges x.count x.low x.high) (drop (i + 1) text) ≡ follows (ranges count low high) (drop i text)
   unfolding goes_on due_of
-  turn-bytes c l g m = rw m at turn
+  turn-bytes x m = rw m at turn
 
 -- at the end of the text nothing may be due
 pub at-end : (count low high : ℕ) → eqb count 0 ≡ follows (ranges count low high) []

@@ -1,142 +1,109 @@
 // Well-formed UTF-8 by the Unicode Standard, section 3.9: Table 3-7, one row of it a line below; and the code point at a place.
 #![tactic(auto)]
 
-ghost use Rattle.std.specs.Prelude.{◌≡◌, ◌+◌, ◌-◌, ◌≤◌, ltb, get_or, drop};
-ghost use Rattle.rules.specs.Bytes.{pick};
+ghost use Rattle.std.specs.Prelude.{◌≡◌, ◌+◌, ◌≤◌, get_or, length, drop};
 ghost use Rattle.rules.specs.Utf8.{due_after, rows, well_formed, leading, trailing, code_point};
-ghost use Rattle.utf8.specs.Dues.{ranges, due_of, after, highest_from};
+ghost use Rattle.utf8.specs.Dues.{ranges, due_of, after};
 
-// What is due after a byte: so many bytes, the first of them from the second number to the third and the others from 0x80 to 0xBF. Or no text goes on so.
+use scan::column::part;
+
+// What is due: `count` bytes, the first of them from `low` to `high` and the others from 0x80 to 0xBF.
 #[derive(Clone, Copy)]
-enum Due {
-    Bytes(u8, u8, u8),
-    Never,
+struct Due {
+    count: u8,
+    low: u8,
+    high: u8,
 }
 
-// Table 3-7: what is due after a first byte.
+impl Due {
+    const fn bytes(count: u8, low: u8, high: u8) -> Due
+        ensures { result ≡ record { count = count; low = low; high = high } }
+    {
+        Due { count, low, high }
+    }
+
+    // What is due after the byte b, where this was due. None: no text goes on so.
+    fn next(self, b: u8) -> Option<Due>
+        ensures { due_of result ≡ after (ranges self.count self.low self.high) b }
+    {
+        if self.count == 0 {
+            return row_of(b);
+        }
+        if b < self.low {
+            return None;
+        }
+        if self.high < b {
+            return None;
+        }
+        Some(Due::bytes(self.count - 1, 0x80, 0xBF))
+    }
+}
+
+// Table 3-7: what is due after a first byte. None: no character begins so.
 #[tactic(auto, using(crate::proofs::Rows::two_byte_row))]
-fn row_of(b: u8) -> Due
+fn row_of(b: u8) -> Option<Due>
     ensures { due_of result ≡ due_after b rows }
 {
     match b {
-        0x00..=0x7F => Due::Bytes(0, 0x80, 0xBF),
-        0xC2..=0xDF => Due::Bytes(1, 0x80, 0xBF),
-        0xE0..=0xE0 => Due::Bytes(2, 0xA0, 0xBF),
-        0xE1..=0xEC => Due::Bytes(2, 0x80, 0xBF),
-        0xED..=0xED => Due::Bytes(2, 0x80, 0x9F),
-        0xEE..=0xEF => Due::Bytes(2, 0x80, 0xBF),
-        0xF0..=0xF0 => Due::Bytes(3, 0x90, 0xBF),
-        0xF1..=0xF3 => Due::Bytes(3, 0x80, 0xBF),
-        0xF4..=0xF4 => Due::Bytes(3, 0x80, 0x8F),
-        _ => Due::Never,
+        0x00..=0x7F => Some(Due::bytes(0, 0x80, 0xBF)),
+        0xC2..=0xDF => Some(Due::bytes(1, 0x80, 0xBF)),
+        0xE0..=0xE0 => Some(Due::bytes(2, 0xA0, 0xBF)),
+        0xE1..=0xEC => Some(Due::bytes(2, 0x80, 0xBF)),
+        0xED..=0xED => Some(Due::bytes(2, 0x80, 0x9F)),
+        0xEE..=0xEF => Some(Due::bytes(2, 0x80, 0xBF)),
+        0xF0..=0xF0 => Some(Due::bytes(3, 0x90, 0xBF)),
+        0xF1..=0xF3 => Some(Due::bytes(3, 0x80, 0xBF)),
+        0xF4..=0xF4 => Some(Due::bytes(3, 0x80, 0x8F)),
+        _ => None,
     }
-}
-
-// What is due after the byte b, where `count` bytes were due, the first of them from `low` to `high`.
-fn next(count: u8, low: u8, high: u8, b: u8) -> Due
-    ensures { due_of result ≡ after (ranges count low high) b }
-{
-    if count == 0 {
-        return row_of(b);
-    }
-    if b < low {
-        return Due::Never;
-    }
-    if high < b {
-        return Due::Never;
-    }
-    Due::Bytes(count - 1, 0x80, 0xBF)
-}
-
-fn higher(a: u8, b: u8) -> u8
-    ensures { result ≡ pick (ltb a b) b a }
-{
-    if a < b { b } else { a }
-}
-
-// The highest byte; 0 where there is none.
-fn highest(text: &[u8]) -> u8
-    ensures { result ≡ highest_from 0 text.now }
-{
-    let mut most = 0;
-    let mut i = 0;
-    while i < text.len() {
-        most = higher(most, text[i]);
-        i += 1;
-    }
-    most
 }
 
 // Byte by byte, by the rows of the table.
 fn goes_by_rows(text: &[u8]) -> bool
     ensures { result ≡ well_formed text.now }
 {
-    let mut count = 0;
-    let mut low = 0x80;
-    let mut high = 0xBF;
-    let mut i = 0;
-    while i < text.len() {
-        let d = next(count, low, high, text[i]);
-        match d {
-            Due::Never => {
-                return false;
-            }
-            Due::Bytes(c, l, h) => {
-                count = c;
-                low = l;
-                high = h;
-            }
-        }
-        i += 1;
+    let mut due = Due {
+        count: 0,
+        low: 0x80,
+        high: 0xBF,
+    };
+    for b in text {
+        let Some(next) = due.next(*b) else {
+            return false;
+        };
+        due = next;
     }
-    count == 0
+    due.count == 0
 }
 
-// A text of the table's first row alone, which is ASCII, is found so by its highest byte.
-#[tactic(auto, using(crate::proofs::Ascii::is_ascii))]
+// Whether the text is well-formed UTF-8. ASCII is the table's first row alone, and is tested by blocks.
 pub fn is_well_formed(text: &[u8]) -> bool
     ensures { result ≡ well_formed text.now }
 {
-    if highest(text) < 0x80 {
-        return true;
-    }
-    goes_by_rows(text)
-}
-
-// a - b, or 0 where b is larger.
-fn minus(a: u8, b: u8) -> u32
-    ensures { result ≡ a - b }
-{
-    if a < b { 0 } else { (a - b) as u32 }
+    text.is_ascii() || goes_by_rows(text)
 }
 
 // Table 3-6: what a first byte gives, by how many bytes are due after it.
 fn first_bits(count: u8, b: u8) -> u32
     ensures { result ≡ leading (ranges count 0x80 0xBF) b }
 {
-    match count {
-        0 => b as u32,
-        1 => minus(b, 0xC0),
-        2 => minus(b, 0xE0),
-        _ => minus(b, 0xF0),
-    }
+    let mark = match count {
+        0 => 0,
+        1 => 0xC0,
+        2 => 0xE0,
+        _ => 0xF0,
+    };
+    b.saturating_sub(mark) as u32
 }
 
-// Table 3-6: each byte due adds its last six bits to those so far, as far as the text goes.
-fn more_bits(text: &[u8], at: usize, count: u8, bits: u32) -> u32
-    requires { (count ≤ 3) × (bits ≤ 255) }
-    ensures { result ≡ trailing (ranges count 0x80 0xBF) bits (drop at text.now) }
+// Table 3-6: each byte due adds its last six bits to those so far.
+fn more_bits(due: &[u8], bits: u32) -> u32
+    requires { (length due.now ≤ 3) × (bits ≤ 255) }
+    ensures { result ≡ trailing (ranges (length due.now) 0x80 0xBF) bits due.now }
 {
-    let mut left = count;
     let mut n = bits;
-    let mut i = at;
-    while 0 < left {
-        if text.len() <= i {
-            return n;
-        }
-        n = n * 0x40 + minus(text[i], 0x80);
-        i += 1;
-        left -= 1;
+    for b in due {
+        n = n * 0x40 + b.saturating_sub(0x80) as u32;
     }
     n
 }
@@ -149,12 +116,11 @@ pub fn code_point_at(text: &[u8], i: usize) -> u32
         return 0;
     }
     let b = text[i];
-    let d = row_of(b);
-    match d {
-        Due::Never => b as u32,
-        Due::Bytes(count, _, _) => {
-            let bits = first_bits(count, b);
-            more_bits(text, i + 1, count, bits)
+    match row_of(b) {
+        None => b as u32,
+        Some(due) => {
+            let rest = part(text, i + 1, due.count as usize);
+            more_bits(rest, first_bits(due.count, b))
         }
     }
 }

@@ -1,3 +1,4 @@
-pub mod Runs
-pub mod Turns
+pub mod Prefixes
+pub mod Orders
+pub mod Fronts
 pub mod Operators

@@ -1,1 +1,5 @@
-pub mod Kinds
+pub mod Told
+pub mod Views
+pub mod Operators
+pub mod Orders
+pub mod Total

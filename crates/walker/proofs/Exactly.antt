@@ -11,7 +11,7 @@ use Rattle.rules.specs.Records.{records}
 use Rattle.rules.specs.Listing.{lines_of_records}
 use Rattle.rules.proofs.ListingLaws.{InOrder, field_lines}
 use Rattle.rules.proofs.FormLaws.{Octets, form-exactly}
-use Rattle.walker.specs.Walks.{is_some}
+use Rattle.walker.specs.Forms.{is_some}
 
 some_is : {A : Type 0} (o : Option A) → is_some o ≡ true → (a : A) × (o ≡ some a)
 unfolding is_some

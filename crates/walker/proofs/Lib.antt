@@ -1,3 +1,4 @@
-pub mod Fronts
-pub mod Steps
+pub mod Heads
+pub mod Items
+pub mod Rules
 pub mod Exactly

@@ -1,47 +1,31 @@
--- The record form read back by steps (document 01, "Records and listing"): what stands at a place, and the walk after it. Assumes nothing.
-use Rattle.std.specs.Prelude.{ℕ, ◌+◌, Bool, true, false, List, eqb, leb, length, take, drop}
-use Rattle.std.proofs.Math.Option.{Option, none, some}
-use Rattle.rules.specs.Bytes.{pick, from_little}
-use Rattle.rules.specs.Listing as Rules
-use Rattle.walker.specs.declared.Front.{Front}
-use Rattle.walker.specs.declared.Front.TheVariants.{Whole, Broken}
-use Rattle.walker.specs.declared.Form.{Form}
-use Rattle.walker.specs.declared.Form.TheVariants.{Argument, String, List as AList, Wrong}
-use Rattle.walker.specs.declared.Walk.{Walk}
-use Rattle.walker.specs.declared.Step.{Step}
-use Rattle.walker.specs.declared.Step.TheVariants.{Value, Count, End, Refused}
+-- What the code's records in form are, and the items that its walk yields. Assumes nothing.
+use Rattle.std.specs.Prelude.{ℕ, List, Result, Ok, Err}
+use Rattle.walker.specs.Forms.{Item, value, count, broken, First, items_from}
+use Rattle.walker.specs.declared.form.FormedRecord.{FormedRecord}
+use Rattle.walker.specs.declared.form.Content.{Content}
+use Rattle.walker.specs.declared.form.Content.TheVariants.{Bytes, Count}
+use Rattle.walker.specs.declared.form.NotRecords.{NotRecords}
+use Rattle.walker.specs.declared.form.Walk.{Walk}
 
--- the record at the front, by its kind and the length of its payload
-unfoldable pub front_of : Option Rules.Front → Front
-front_of none = Broken
-front_of (some r) = Whole r.kind (length r.payload)
+abbrev pub content_told : ℕ → Content → Item
+content_told kind (Bytes b) = value kind b.now
+content_told kind (Count n) = count kind n
 
-unfoldable pub form_of : Rules.Form → Form
-form_of Rules.Form.argument = Argument
-form_of Rules.Form.string = String
-form_of Rules.Form.list = AList
-form_of Rules.Form.wrong = Wrong
+abbrev pub record_told : FormedRecord → Item
+record_told r = content_told r.kind r.content
 
--- what a whole record is at this place of the walk, by its form
-unfoldable pub placed_at : List ℕ → Walk → ℕ → ℕ → Form → Step
-placed_at records w kind size Argument = Value kind size (record { at = w.at + 6 + size; last = w.last; due = Rules.less w.due })
-placed_at records w kind size String = Value kind size (record { at = w.at + 6 + size; last = kind; due = 0 })
-placed_at records w kind size AList =
-    let count = from_little (take 4 (drop (w.at + 6) records)) in
-    pick (eqb size 4) (Count kind count (record { at = w.at + 6 + size; last = kind; due = count })) Refused
-placed_at records w kind size Wrong = Refused
+-- an error stands for bytes that break the form
+abbrev pub item_told : Result FormedRecord NotRecords → Item
+item_told (Ok r) = record_told r
+item_told (Err e) = broken
 
-unfoldable pub fronted_at : List ℕ → Walk → Front → Step
-fronted_at records w Broken = Refused
-fronted_at records w (Whole kind size) = placed_at records w kind size (form_of (Rules.form w.last w.due kind))
+abbrev pub told_first : FormedRecord → Walk → First
+told_first r w = record { item = record_told r; rest = w.rest.now; last = w.last; due = w.due }
 
--- what stands at the walk's place
-unfoldable pub step_at : List ℕ → Walk → Step
-step_at records w =
-    pick (leb (length records) w.at)
-    (pick (eqb w.due 0) End Refused)
-    (fronted_at records w (front_of (Rules.front (drop w.at records))))
+-- the items that are left
+abbrev pub items_left : Walk → List Item
+items_left w = items_from w.last w.due w.rest.now
 
-unfoldable pub is_some : {A : Type 0} → Option A → Bool
-is_some none = false
-is_some (some a) = true
+-- the items of all the records
+abbrev pub items_of : List ℕ → List Item
+items_of bytes = items_from 0 0 bytes

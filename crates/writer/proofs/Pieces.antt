@@ -1,5 +1,5 @@
--- Laws of the tables: they stay where only the scratch is written; a token and the piece that it is; the names that pieces refer to. Assumes nothing.
-use Prim.Native.Nat.{ℕ, suc, ◌+◌, ◌*◌, ◌-◌, ◌<◌, ◌≤◌}
+-- Laws of the tables: a token and the piece that it is; the names that pieces refer to. Assumes nothing.
+use Prim.Native.Nat.{ℕ, suc, ◌+◌, ◌-◌, ◌<◌, ◌≤◌}
 use mathlib.Core.Path.{◌≡◌, refl, ◌∙◌, ap}
 use mathlib.Core.List.{List, [], ◌∷◌}
 use native.Mathlib.Nat.{add-zero}
@@ -12,25 +12,9 @@ use Rattle.rules.specs.Bytes.{pick}
 use Rattle.rules.specs.Tokens.{is_a, no_name}
 use Rattle.rules.specs.Variables.{Piece}
 use Rattle.tokens.specs.Entries.{token_at}
-use Rattle.workspace.proofs.Frames.{column-low, decode-low}
-use Rattle.workspace.specs.Map.{dropped_kind, pieces_of, piece_of, rules_in, Room}
-use Rattle.writer.specs.Tables.{Tables, tables_in, start_of, end_of, pieces, value, joined}
-use Rattle.writer.specs.Writing.{Known, Apart}
-
--- THE FRAME: what the writer reads stays, where only the scratch is written
-pub tables-same : (n count v : ℕ) (ws ws' pool : List ℕ) → Room n count v ws → Apart n ws ws' → tables_in n count v ws' pool ≡ tables_in n count v ws pool
-unfolding rules_in
-tables-same n count v ws ws' pool r a =
-    let d = decode-low (9 * n) ws ws' a.before count pool (omega (arith, r.tokens)) in
-    let k4 = column-low (9 * n) ws ws' a.before v (4 * n) (omega (arith, r.tokens, r.few)) in
-    let k5 = column-low (9 * n) ws ws' a.before n (5 * n) (omega arith) in
-    let k6 = column-low (9 * n) ws ws' a.before n (6 * n) (omega arith) in
-    let k7 = column-low (9 * n) ws ws' a.before n (7 * n) (omega arith) in
-    let k8 = column-low (9 * n) ws ws' a.before v (8 * n) (omega (arith, r.tokens, r.few)) in
-    rw (d, k4, k5, k6, k7, k8)
-
-pub room-same : {n count v : ℕ} {ws ws' : List ℕ} → Room n count v ws → Apart n ws ws' → Room n count v ws'
-room-same r a = record { small = r.small; room = omega (arith, r.room, a.long); tokens = r.tokens; few = r.few }
+use Rattle.workspace.specs.Map.{dropped_kind, pieces_of, piece_of}
+use Rattle.writer.specs.Tables.{Tables, start_of, end_of, pieces, value, joined}
+use Rattle.writer.specs.Writing.{Known}
 
 -- the pieces of a token and those after it
 module _ (t : Tables) (i e : ℕ) (h : i < e) (l : i < length t.tokens) where

@@ -1,10 +1,10 @@
 -- Tables whose variables resolve have a numbering, and each value is its pieces joined. Assumes nothing.
-use Prim.Native.Nat.{ℕ, zero, suc, ◌+◌, ◌*◌, ◌<◌}
+use Prim.Native.Nat.{ℕ, zero, suc, ◌+◌, ◌<◌}
 use mathlib.Core.Path.{◌≡◌, refl, ◌∙◌, ap, ap₂}
 use mathlib.Core.List.{List, [], ◌∷◌, ◌++◌, map}
 use mathlib.Core.Option.{none}
 use native.Mathlib.Omega.{arith}
-use lib.ListN.{length, get_or, drop, length-take, length-drop, length-map, get_or-map}
+use lib.ListN.{length, get_or, drop, length-map, get_or-map, drop_of_length-le}
 use Rattle.rules.specs.Variables.{Piece, resolved}
 use Rattle.rules.proofs.Lengths.{entry, entries}
 use Rattle.rules.proofs.Ranks.{Joined, Refers, here, there, HasAll, Says}
@@ -12,8 +12,7 @@ use Rattle.rules.proofs.RanksLaws.{joined-one}
 use Rattle.rules.proofs.ResolveLaws.{resolve-says, numbered}
 use Rattle.rules.proofs.WriterLaws.{bounded}
 use Rattle.scan.specs.Stores.{puts}
-use Rattle.tokens.proofs.TokenLaws.{length-decode}
-use Rattle.writer.specs.Tables.{Tables, tables_in, start_of, end_of, pieces, rules, value, joined, value_between}
+use Rattle.writer.specs.Tables.{Tables, start_of, end_of, pieces, rules, value, joined, value_between}
 use Rattle.writer.specs.Writing.{Ready, Writable}
 use Rattle.writer.proofs.Pieces.{Refs, Sound}
 use Rattle.writer.proofs.Runs.{Run, begin}
@@ -66,7 +65,6 @@ module _ {count v : ℕ} {t : Tables} (r : Ready count v t) where
         in_table = r.in_table;
       }
 
-pub start : {n count v : ℕ} {pool ws out : List ℕ} {at from to : ℕ} → Writable n count v (tables_in n count v ws pool) ws out at from to
-    → Run n count v pool (tables_in n count v ws pool) ws (puts out at (value_between (tables_in n count v ws pool) from to)) at (at + length (value_between (tables_in n count v ws pool) from to)) ws out (12 * n) from to v at
-start {n} {count} {v} {pool} {ws} w =
-    begin (sound w.ready (length-decode count ws pool) (omega (arith, length-take v (drop (4 * n) ws), length-drop (4 * n) ws, w.room.room, w.room.few, w.room.tokens))) w
+pub start : {t : Tables} {places stack out : List ℕ} {at from to : ℕ} → Writable t places stack out at from to → (v : ℕ) → v ≡ length t.keys
+    → Run t places (puts out at (value_between t from to)) at (at + length (value_between t from to)) places (drop (length stack) stack) (length stack) out from to v at
+start {stack = stack} w v ve = let e : drop (length stack) stack ≡ [] = drop_of_length-le stack {i = length stack} (omega arith) in rw (ve, e) (begin (sound w.ready refl refl) w)

@@ -1,24 +1,16 @@
 -- How many turns are left: the tokens that the frames have left, and for each variable that is neither remembered nor being written its own tokens.
 -- Each is counted once, however often it is referred to. Assumes nothing.
-use Prim.Native.Nat.{ℕ, zero, suc, ◌+◌, ◌*◌, ◌-◌, ◌<◌, ◌≤◌}
+use Prim.Native.Nat.{ℕ, zero, suc, ◌+◌, ◌-◌, ◌<◌, ◌≤◌}
 use mathlib.Core.Path.{◌≡◌, refl, sym, ◌∙◌, ap, ap₂}
 use mathlib.Core.Bool.{Bool, true, false}
 use mathlib.Core.List.{List, [], ◌∷◌}
 use native.Mathlib.Decide.{dec_lt}
 use native.Mathlib.Omega.{arith}
 use lib.Dec.{eqb}
-use lib.ListN.{take, drop, length-take, drop_of_length-le}
 use borrow.Author.Tests.{eq-eqb, ne_eqb}
 use Rattle.rules.specs.Bytes.{pick}
 use Rattle.writer.specs.Tables.{Tables, start_of, end_of}
 use Rattle.writer.specs.Writing.{place_in}
-
--- the stack: the entries from `top` up to 12n, three a frame, the last pushed first
-abbrev pub stack : ℕ → ℕ → List ℕ → List ℕ
-stack n top ws = drop top (take (12 * n) ws)
-
-pub stack-none : (n top : ℕ) (ws : List ℕ) → 12 * n ≤ top → stack n top ws ≡ []
-stack-none n top ws h = drop_of_length-le (take (12 * n) ws) {i = top} (omega (arith, length-take (12 * n) ws))
 
 -- k is in the list
 unfoldable pub has : ℕ → List ℕ → Bool
@@ -51,14 +43,15 @@ sum_to f (suc m) = f m + sum_to f m
 abbrev pub weight : Tables → ℕ → ℕ
 weight t j = end_of t j - start_of t j + 3
 
-abbrev due_at : ℕ → Tables → List ℕ → List ℕ → ℕ → ℕ
-due_at n t ws busy j = due (place_in n ws j) (has j busy) (weight t j)
+abbrev due_at : Tables → List ℕ → List ℕ → ℕ → ℕ
+due_at t places busy j = due (place_in places j) (has j busy) (weight t j)
 
-unfoldable pub all_due : ℕ → ℕ → Tables → List ℕ → List ℕ → ℕ
-all_due n v t ws busy = sum_to (due_at n t ws busy) v
+unfoldable pub all_due : ℕ → Tables → List ℕ → List ℕ → ℕ
+all_due v t places busy = sum_to (due_at t places busy) v
 
-unfoldable pub turns : ℕ → ℕ → Tables → List ℕ → ℕ → ℕ → ℕ → ℕ → ℕ
-turns n v t ws top i e owner = e - i + 2 + frames_left (stack n top ws) + all_due n v t ws (owner ∷ owners (stack n top ws))
+-- `frames` is the stack, three entries a frame, the last pushed first
+unfoldable pub turns : ℕ → Tables → List ℕ → List ℕ → ℕ → ℕ → ℕ → ℕ
+turns v t places frames i e owner = e - i + 2 + frames_left frames + all_due v t places (owner ∷ owners frames)
 
 -- laws of sums
 sum_same : (f g : ℕ → ℕ) (m : ℕ) → ((k : ℕ) → k < m → f k ≡ g k) → sum_to f m ≡ sum_to g m
@@ -108,46 +101,44 @@ has-cases k x xs A h f g = elim (dec_lt k x) [
   | no l ↦ elim (dec_lt x k) [ yes m ↦ g (sym (has_other k x xs (λ q. omega arith)) ∙ h) | no m ↦ f (omega arith) ]
 ]
 
-module _ (n v : ℕ) (t : Tables) (ws ws' : List ℕ) where
+module _ (v : ℕ) (t : Tables) (places places' : List ℕ) where
   -- variable j begins to be written
-  pub due-begin : (j : ℕ) (busy : List ℕ) → j < v → ((k : ℕ) → k < v → place_in n ws' k ≡ place_in n ws k) → place_in n ws j ≡ 0 → has j busy ≡ false
-      → all_due n v t ws busy ≡ all_due n v t ws' (j ∷ busy) + weight t j
+  pub due-begin : (j : ℕ) (busy : List ℕ) → j < v → ((k : ℕ) → k < v → place_in places' k ≡ place_in places k) → place_in places j ≡ 0 → has j busy ≡ false
+      → all_due v t places busy ≡ all_due v t places' (j ∷ busy) + weight t j
   unfolding all_due
   due-begin j busy l same p b =
-      let z : due_at n t ws busy j ≡ weight t j = rw (p, b) in
-      sum-spend (due_at n t ws busy) (due_at n t ws' (j ∷ busy)) j v l
+      let z : due_at t places busy j ≡ weight t j = rw (p, b) in
+      sum-spend (due_at t places busy) (due_at t places' (j ∷ busy)) j v l
       (λ k m q. rw (same k m, has_other k j busy q))
-      (rw (has_same j busy) (due-busy (place_in n ws' j) (weight t j)))
-      ∙ ap (λ (m : ℕ). sum_to (due_at n t ws' (j ∷ busy)) v + m) z
+      (rw (has_same j busy) (due-busy (place_in places' j) (weight t j)))
+      ∙ ap (λ (m : ℕ). sum_to (due_at t places' (j ∷ busy)) v + m) z
 
   -- and is remembered
-  pub due-end : (j : ℕ) (busy : List ℕ) → ((k : ℕ) → (k ≡ j → ⊥) → place_in n ws' k ≡ place_in n ws k) → 1 ≤ place_in n ws' j
-      → all_due n v t ws (j ∷ busy) ≡ all_due n v t ws' busy
+  pub due-end : (j : ℕ) (busy : List ℕ) → ((k : ℕ) → (k ≡ j → ⊥) → place_in places' k ≡ place_in places k) → 1 ≤ place_in places' j
+      → all_due v t places (j ∷ busy) ≡ all_due v t places' busy
   unfolding all_due
-  due-end j busy same p = sum_same (due_at n t ws (j ∷ busy)) (due_at n t ws' busy) v (λ k m. each k (dec_lt k j) (dec_lt j k))
+  due-end j busy same p = sum_same (due_at t places (j ∷ busy)) (due_at t places' busy) v (λ k m. each k (dec_lt k j) (dec_lt j k))
     where
-      other : (k : ℕ) → (k ≡ j → ⊥) → due_at n t ws (j ∷ busy) k ≡ due_at n t ws' busy k
+      other : (k : ℕ) → (k ≡ j → ⊥) → due_at t places (j ∷ busy) k ≡ due_at t places' busy k
       other k q = rw (same k q, has_other k j busy q)
 
-      each : (k : ℕ) → Dec (k < j) → Dec (j < k) → due_at n t ws (j ∷ busy) k ≡ due_at n t ws' busy k
+      each : (k : ℕ) → Dec (k < j) → Dec (j < k) → due_at t places (j ∷ busy) k ≡ due_at t places' busy k
       each k (yes a) d = other k (λ q. omega arith)
       each k (no a) (yes b) = other k (λ q. omega arith)
       each k (no a) (no b) =
           let e : k ≡ j = omega arith in
-          rw (e, has_same j busy) (due-busy (place_in n ws j) (weight t j) ∙ sym (due-known (place_in n ws' j) (has j busy) (weight t j) p))
+          rw (e, has_same j busy) (due-busy (place_in places j) (weight t j) ∙ sym (due-known (place_in places' j) (has j busy) (weight t j) p))
 
 -- so a call takes at most as many turns as there are tokens in its range and in all variables' values, and three more for each variable
-pub turns-bound : (n v : ℕ) (t : Tables) (ws : List ℕ) (i e owner : ℕ) → turns n v t ws (12 * n) i e owner ≤ e - i + 2 + sum_to (weight t) v
+pub turns-bound : (v : ℕ) (t : Tables) (places : List ℕ) (i e owner : ℕ) → turns v t places [] i e owner ≤ e - i + 2 + sum_to (weight t) v
 unfolding turns all_due frames_left owners
-turns-bound n v t ws i e owner =
-    rw (stack-none n (12 * n) ws (omega arith))
-    (omega (arith, sum-le (due_at n t ws (owner ∷ [])) (weight t) v (λ k l. due-le (place_in n ws k) (has k (owner ∷ [])) (weight t k))))
+turns-bound v t places i e owner = omega (arith, sum-le (due_at t places (owner ∷ [])) (weight t) v (λ k l. due-le (place_in places k) (has k (owner ∷ [])) (weight t k)))
 
 -- With the stack empty the turns are those of the range and of the variables due. So a call takes at most the difference between its start and its end: the
 -- tokens of its range, and what its variables were due before it less what they are after it. Over calls that carry the places along the latter is spent once.
-pub turns-whole : (n v : ℕ) (t : Tables) (ws : List ℕ) (i e : ℕ) → turns n v t ws (12 * n) i e v ≡ e - i + 2 + all_due n v t ws []
+pub turns-whole : (v : ℕ) (t : Tables) (places : List ℕ) (i e : ℕ) → turns v t places [] i e v ≡ e - i + 2 + all_due v t places []
 unfolding turns all_due frames_left owners
-turns-whole n v t ws i e =
-    let d : sum_to (due_at n t ws (v ∷ [])) v ≡ sum_to (due_at n t ws []) v
-    = sum_same (due_at n t ws (v ∷ [])) (due_at n t ws []) v (λ k l. rw (has_other k v [] (λ q. omega arith))) in
-    rw (stack-none n (12 * n) ws (omega arith), d) (omega arith)
+turns-whole v t places i e =
+    let d : sum_to (due_at t places (v ∷ [])) v ≡ sum_to (due_at t places []) v
+    = sum_same (due_at t places (v ∷ [])) (due_at t places []) v (λ k l. rw (has_other k v [] (λ q. omega arith))) in
+    rw d (omega arith)

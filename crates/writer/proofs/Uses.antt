@@ -8,7 +8,7 @@ use native.Mathlib.Nat.{add-zero}
 use native.Mathlib.Decide.{dec_lt}
 use native.Mathlib.Omega.{arith}
 use lib.Dec.{ltb}
-use lib.ListN.{length, get_or, take, drop, replicate, length-append, length-map, length-replicate, get_or-eq_default}
+use lib.ListN.{length, get_or, take, drop, replicate, length-append, length-map, get_or-eq_default}
 use Rattle.rules.specs.Numbers.{ok}
 use Rattle.rules.specs.Lines.{Assignment}
 use Rattle.rules.specs.Variables.{Piece, rules_of, Found, Resolved, too_large_at, lacks, resolve_variables, found_at, resolved, resolve, limit, Expansion, large, missing, bounded, expand}
@@ -16,11 +16,11 @@ use Rattle.rules.proofs.Lengths.{entries}
 use Rattle.rules.proofs.TableLaws.{ok-one, refused-ok}
 use Rattle.scan.specs.Stores.{puts}
 use Rattle.scan.proofs.Stores.{puts-puts, puts_comm, column-before, column-after}
-use Rattle.workspace.specs.Map.{Room, keys_of, ends_of, lengths_of, variables_in, rules_in, Looked}
+use Rattle.workspace.specs.Map.{keys_of, ends_of, lengths_of, variables_in, rules_in, Looked}
 use Rattle.workspace.proofs.Links.{rules-looked}
 use Rattle.writer.specs.Tables.{Tables, tables_in, values_of, or_empty, value, joined}
-use Rattle.writer.specs.Writing.{place_in, Held, Remembered, Known, Ready, Apart, Written}
-use Rattle.writer.proofs.Places.{forgotten, scratch-fits, apart_none, apart_more, apart-puts}
+use Rattle.writer.specs.Writing.{place_in, Held, Remembered, Known, Ready, Written}
+use Rattle.writer.proofs.Places.{forgotten}
 use Rattle.writer.proofs.Sounds.{has_all}
 
 -- where the variables of the workspace resolve, so do the rules in it
@@ -49,64 +49,57 @@ module _ (n count v : ℕ) (ws pool : List ℕ) (vals : Found) (found : resolve 
   ready lengths ends = record { resolves = found ∙ ap resolved (sym values-are); lengths = lengths ∙ ap entries (sym values-are); in_table = ends }
 
 -- where no place is remembered, what is remembered is right
-pub fresh : (n v : ℕ) (t : Tables) (ws out : List ℕ) (at : ℕ) → 9 * n + 2 * v ≤ length ws → Remembered n v t (puts ws (9 * n) (replicate (2 * v) 0)) out at
-fresh n v t ws out at h j k p = absurd (omega (arith, forgotten n ws v j h k))
+pub fresh : (t : Tables) (out : List ℕ) (at m : ℕ) → 2 * length t.keys ≤ m → Remembered t (replicate m 0) out at
+fresh t out at m h j k p = absurd (omega (arith, forgotten m j (omega arith)))
 
-pub fresh-apart : (n count v : ℕ) (ws : List ℕ) → Room n count v ws → Apart n ws (puts ws (9 * n) (replicate (2 * v) 0))
-fresh-apart n count v ws r =
-    apart-puts n ws (9 * n) (replicate (2 * v) 0) (omega arith) (omega (arith, length-replicate {A = ℕ} (2 * v) 0, scratch-fits r))
-
-module _ {n v : ℕ} {t : Tables} {ws out : List ℕ} {at : ℕ} where
+module _ {t : Tables} {places out : List ℕ} {at : ℕ} where
   -- bytes from elsewhere, as a record's head
-  pub bytes-written : (bs : List ℕ) → Remembered n v t ws out at → Written n v t ws out at bs ws (puts out at bs) (at + length bs)
+  pub bytes-written : (bs : List ℕ) → Remembered t places out at → Written t places out at bs places (puts out at bs) (at + length bs)
   bytes-written bs r =
       record {
         moved = refl;
         bytes = refl;
-        apart = apart_none n ws;
-        remembered = λ j k p. (let x = r j k p in record { inside = omega (arith, x.inside); stands = column-before (length (value t j)) (place_in n ws j - 1) out at bs x.inside ∙ x.stands });
+        remembered = λ j k p. (let x = r j k p in record { inside = omega (arith, x.inside); stands = column-before (length (value t j)) (place_in places j - 1) out at bs x.inside ∙ x.stands });
         recent = λ j k p. refl;
       }
 
-  pub none_written : Remembered n v t ws out at → Written n v t ws out at [] ws out at
-  none_written r = record { moved = sym (add-zero at); bytes = refl; apart = apart_none n ws; remembered = r; recent = λ j k p. refl }
+  pub none_written : Remembered t places out at → Written t places out at [] places out at
+  none_written r = record { moved = sym (add-zero at); bytes = refl; remembered = r; recent = λ j k p. refl }
 
   -- one thing after another
-  pub and_then : {bs cs ws₁ out₁ ws₂ out₂ : List ℕ} {at₁ at₂ : ℕ} → Written n v t ws out at bs ws₁ out₁ at₁ → Written n v t ws₁ out₁ at₁ cs ws₂ out₂ at₂
-      → Written n v t ws out at (bs ++ cs) ws₂ out₂ at₂
-  and_then {bs} {cs} {ws₁} {out₁} {ws₂} {out₂} {at₁} {at₂} a b =
+  pub and_then : {bs cs places₁ out₁ places₂ out₂ : List ℕ} {at₁ at₂ : ℕ} → Written t places out at bs places₁ out₁ at₁ → Written t places₁ out₁ at₁ cs places₂ out₂ at₂
+      → Written t places out at (bs ++ cs) places₂ out₂ at₂
+  and_then {bs} {cs} {places₁} {out₁} {places₂} {out₂} {at₁} {at₂} a b =
       record {
         moved = omega (arith, a.moved, b.moved, length-append bs cs);
         bytes = b.bytes ∙ rw (a.bytes, a.moved) (puts-puts out at bs cs);
-        apart = apart_more a.apart b.apart;
         remembered = b.remembered;
         recent = λ j k p. (let e = b.recent j k (omega (arith, a.moved)) in e ∙ a.recent j k (omega arith));
       }
 
   -- bytes from elsewhere before what was written, as a record's head
-  pub before-written : (hs : List ℕ) → Remembered n v t ws out at → {bs ws₁ out₁ : List ℕ} {at₁ : ℕ} → Written n v t ws out (at + length hs) bs ws₁ out₁ at₁
-      → Written n v t ws out at (hs ++ bs) ws₁ (puts out₁ at hs) at₁
-  before-written hs r {bs} {ws₁} {out₁} {at₁} w =
+  pub before-written : (hs : List ℕ) → Remembered t places out at → {bs places₁ out₁ : List ℕ} {at₁ : ℕ} → Written t places out (at + length hs) bs places₁ out₁ at₁
+      → Written t places out at (hs ++ bs) places₁ (puts out₁ at hs) at₁
+  before-written hs r {bs} {places₁} {out₁} {at₁} w =
       record {
         moved = omega (arith, w.moved, length-append hs bs);
         bytes = ap (λ (l : List ℕ). puts l at hs) w.bytes ∙ sym (puts_comm out at (at + length hs) hs bs (omega arith)) ∙ puts-puts out at hs bs;
-        apart = w.apart;
-        remembered = λ j k p. held j k p (dec_lt (at + length hs) (place_in n ws₁ j));
+        remembered = λ j k p. held j k p (dec_lt (at + length hs) (place_in places₁ j));
         recent = λ j k p. w.recent j k (omega arith);
       }
     where
-      held : (j : ℕ) → j < v → 1 ≤ place_in n ws₁ j → Dec (at + length hs < place_in n ws₁ j) → Held (puts out₁ at hs) at₁ (value t j) (place_in n ws₁ j)
+      held : (j : ℕ) → j < length t.keys → 1 ≤ place_in places₁ j → Dec (at + length hs < place_in places₁ j) → Held (puts out₁ at hs) at₁ (value t j) (place_in places₁ j)
       held j k p (yes l) =
           let x = w.remembered j k p in
-          record { inside = x.inside; stands = column-after (length (value t j)) (place_in n ws₁ j - 1) out₁ at hs (omega arith) ∙ x.stands }
+          record { inside = x.inside; stands = column-after (length (value t j)) (place_in places₁ j - 1) out₁ at hs (omega arith) ∙ x.stands }
       held j k p (no l) =
           let e = w.recent j k (omega arith) in
           let x = r j k (rw e at p) in
           rw e (record {
             inside = omega (arith, x.inside, w.moved);
-            stands = column-before (length (value t j)) (place_in n ws j - 1) out₁ at hs x.inside
-                ∙ ap (λ (l : List ℕ). take (length (value t j)) (drop (place_in n ws j - 1) l)) w.bytes
-                ∙ column-before (length (value t j)) (place_in n ws j - 1) out (at + length hs) bs (omega (arith, x.inside)) ∙ x.stands;
+            stands = column-before (length (value t j)) (place_in places j - 1) out₁ at hs x.inside
+                ∙ ap (λ (l : List ℕ). take (length (value t j)) (drop (place_in places j - 1) l)) w.bytes
+                ∙ column-before (length (value t j)) (place_in places j - 1) out (at + length hs) bs (omega (arith, x.inside)) ∙ x.stands;
           })
 
 -- a value that `expand` gives is the pieces joined, and every reference is to an assigned name

@@ -23,6 +23,20 @@ values_of (too_large_at i) = []
 values_of (lacks i n) = []
 values_of (resolved vals) = vals
 
+-- the tables of these tokens and columns
+abbrev pub tables_by : List Token → List ℕ → List ℕ → List ℕ → List ℕ → List ℕ → Tables
+tables_by tokens ranks keys starts ends lengths =
+    record {
+      tokens = tokens;
+      ranks = ranks;
+      keys = keys;
+      starts = starts;
+      ends = ends;
+      lengths = lengths;
+      values = values_of (resolve (map (rule_at tokens ranks starts ends) keys));
+    }
+
+-- those of the workspace
 abbrev pub tables_in : ℕ → ℕ → ℕ → List ℕ → List ℕ → Tables
 tables_in n count v ws pool =
     record {

@@ -1,10 +1,9 @@
--- What the writer needs, and what it does. Its scratch are the workspace's entries from 9n up to 12n: from 9n on two for each name, where its value stands
--- in the output; and down from 12n the stack, three for each value that is being written. Assumes nothing.
-use Rattle.std.specs.Prelude.{ℕ, ◌+◌, ◌*◌, ◌-◌, ◌≤◌, ◌<◌, ◌≡◌, List, [], ◌∷◌, length, get_or, take, drop}
+-- What the writer needs, and what it does. Beside the tables, which it never changes, it has two parts of the workspace: two entries for each name, where
+-- its value stands in the output; and the stack, which grows down, three entries for each value that is being written. Assumes nothing.
+use Rattle.std.specs.Prelude.{ℕ, suc, ◌+◌, ◌*◌, ◌-◌, ◌≤◌, ◌<◌, ◌≡◌, List, [], ◌∷◌, length, get_or, take, drop}
 use Rattle.rules.specs.Variables.{Piece, resolved, resolve}
 use Rattle.rules.proofs.Lengths.{entries}
 use Rattle.scan.specs.Stores.{puts}
-use Rattle.workspace.specs.Map.{Room}
 use Rattle.writer.specs.Tables.{Tables, end_of, pieces, rules, value, value_between}
 
 -- each reference is to one of the v names
@@ -14,8 +13,8 @@ Known v (Piece.text s ∷ ps) = Known v ps
 Known v (Piece.ref t j ∷ ps) = (j < v) × Known v ps
 
 -- one more than the place in the output where the value of the name of rank j stands, in two entries; 0 for none
-abbrev pub place_in : ℕ → List ℕ → ℕ → ℕ
-place_in n ws j = get_or ws (9 * n + 2 * j) 0 + 2147483648 * get_or ws (9 * n + 2 * j + 1) 0
+abbrev pub place_in : List ℕ → ℕ → ℕ
+place_in places j = get_or places (2 * j) 0 + 2147483648 * get_or places (2 * j + 1) 0
 
 -- bs stand in the list at place p
 abbrev pub Stands : List ℕ → ℕ → List ℕ → Type 0
@@ -26,8 +25,16 @@ pub record Held (out : List ℕ) (at : ℕ) (bs : List ℕ) (p : ℕ) : Type 0 w
   pub inside : p - 1 + length bs ≤ at
   pub stands : Stands out (p - 1) bs
 
-abbrev pub Remembered : ℕ → ℕ → Tables → List ℕ → List ℕ → ℕ → Type 0
-Remembered n v t ws out at = (j : ℕ) → j < v → 1 ≤ place_in n ws j → Held out at (value t j) (place_in n ws j)
+abbrev pub Remembered : Tables → List ℕ → List ℕ → ℕ → Type 0
+Remembered t places out at = (j : ℕ) → j < length t.keys → 1 ≤ place_in places j → Held out at (value t j) (place_in places j)
+
+-- what is needed to write the value of the variable of rank j from place p on
+pub record Referred (t : Tables) (places : List ℕ) (j : ℕ) (out : List ℕ) (p : ℕ) : Type 0 where
+  pub has_length : get_or t.lengths j 0 ≡ suc (length (value t j))
+  pub has_place : 2 * j + 1 < length places
+  pub fits : p + length (value t j) ≤ length out
+  pub small : p + length (value t j) < 4611686018427387904
+  pub held : 1 ≤ place_in places j → Held out p (value t j) (place_in places j)
 
 -- the variables are resolved, the column of lengths is right, and all their tokens are tokens
 pub record Ready (count v : ℕ) (t : Tables) : Type 0 where
@@ -35,26 +42,26 @@ pub record Ready (count v : ℕ) (t : Tables) : Type 0 where
   pub lengths : t.lengths ≡ entries t.values
   pub in_table : (j : ℕ) → j < v → end_of t j ≤ count
 
+-- tokens and names have 16 bits; there is a place for each name, and a frame for each at once
+pub record Suffices (t : Tables) (places stack : List ℕ) : Type 0 where
+  pub tokens : length t.tokens ≤ 65535
+  pub names : length t.keys ≤ 65535
+  pub for_places : 2 * length t.keys ≤ length places
+  pub for_frames : 3 * length t.keys ≤ length stack
+
 -- what a call asks
-pub record Writable (n count v : ℕ) (t : Tables) (ws out : List ℕ) (at from to : ℕ) : Type 0 where
-  pub room : Room n count v ws
-  pub ready : Ready count v t
-  pub in_table : to ≤ count
-  pub known : Known v (pieces t from to)
+pub record Writable (t : Tables) (places stack out : List ℕ) (at from to : ℕ) : Type 0 where
+  pub room : Suffices t places stack
+  pub ready : Ready (length t.tokens) (length t.keys) t
+  pub in_table : to ≤ length t.tokens
+  pub known : Known (length t.keys) (pieces t from to)
   pub fits : at + length (value_between t from to) ≤ length out
   pub small : at + length (value_between t from to) < 4611686018427387904
-  pub remembered : Remembered n v t ws out at
-
--- the workspace is as it was but for the scratch
-pub record Apart (n : ℕ) (ws ws' : List ℕ) : Type 0 where
-  pub long : length ws' ≡ length ws
-  pub before : take (9 * n) ws' ≡ take (9 * n) ws
-  pub past : drop (12 * n) ws' ≡ drop (12 * n) ws
+  pub remembered : Remembered t places out at
 
 -- the bytes bs are written at place `at`; what is remembered is right again, and what is new of it stands there or later
-pub record Written (n v : ℕ) (t : Tables) (ws out : List ℕ) (at : ℕ) (bs ws' out' : List ℕ) (at' : ℕ) : Type 0 where
+pub record Written (t : Tables) (places out : List ℕ) (at : ℕ) (bs places' out' : List ℕ) (at' : ℕ) : Type 0 where
   pub moved : at' ≡ at + length bs
   pub bytes : out' ≡ puts out at bs
-  pub apart : Apart n ws ws'
-  pub remembered : Remembered n v t ws' out' at'
-  pub recent : (j : ℕ) → j < v → place_in n ws' j ≤ at → place_in n ws' j ≡ place_in n ws j
+  pub remembered : Remembered t places' out' at'
+  pub recent : (j : ℕ) → j < length t.keys → place_in places' j ≤ at → place_in places' j ≡ place_in places j

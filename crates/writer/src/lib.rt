@@ -2,116 +2,129 @@
 // it is copied from there afterwards. So the cost is that of the parts and of the bytes, however deep the references go.
 #![tactic(auto)]
 
-ghost use Rattle.std.specs.Prelude.{◌≡◌, [], ◌∷◌, ◌+◌, ◌*◌, ◌/◌, ◌%◌, ◌≤◌, ◌<◌, length, replicate};
+pub mod columns;
+mod stack;
+
+ghost use Rattle.std.specs.Prelude.{◌≡◌, [], ◌∷◌, ◌+◌, ◌-◌, ◌*◌, ◌/◌, ◌%◌, ◌≤◌, ◌<◌, length, get_or, replicate, MatchOption};
 ghost use Rattle.scan.specs.Stores.{puts};
-ghost use Rattle.writer.specs.Tables.{tables_in, value_between};
-ghost use Rattle.writer.specs.Writing.{place_in, Writable, Written};
+ghost use Rattle.writer.specs.Tables.{value, value_between, start_of, end_of};
+ghost use Rattle.writer.specs.Writing.{place_in, Referred, Writable, Written};
 
-use scan::column::cell;
-use scan::store::{copy_within, zero_from};
-use tokens::{TokenKind, copy_text, kind_at};
+use columns::Columns;
+use scan::store::copy_within;
+use stack::{Frame, Stack};
+use tokens::TokenKind;
 
-// One more than the place where the value of the name of rank j stands; 0 for none.
-fn place(ws: &[u32], n: usize, j: usize) -> usize
-    requires { (n ≤ 65535) × (9 * n + 2 * j + 1 < length ws.now) }
-    ensures { result ≡ place_in n ws.now j }
+// A place is held in two entries, in parts below this.
+const PART: usize = 2147483648;
+
+// The place in the output where the value of the variable of rank j stands, if it is remembered: the entries hold one more than it, and 0 for none.
+fn place(places: &[u32], j: usize) -> Option<usize>
+    requires { 2 * j + 1 < length places.now }
+    ensures { MatchOption result (place_in places.now j ≡ 0) (λ p. p + 1 ≡ place_in places.now j) }
 {
-    let at = 9 * n + 2 * j;
-    ws[at] as usize + 2147483648 * (ws[at + 1] as usize)
+    let past = places[2 * j] as usize + PART * (places[2 * j + 1] as usize);
+    past.checked_sub(1)
 }
 
-// The value of the name of rank j stands at p - 1.
-fn remember(ws: &mut [u32], n: usize, j: usize, p: usize)
-    requires { (n ≤ 65535) × (9 * n + 2 * j + 1 < length ws.old) × (p < 9223372036854775808) }
-    ensures { ws.new ≡ puts ws.old (9 * n + 2 * j) (p % 2147483648 ∷ p / 2147483648 ∷ []) }
+// The value of the variable of rank j stands at place p.
+fn remember(places: &mut [u32], j: usize, p: usize)
+    requires { (2 * j + 1 < length places.old) × (p < 9223372036854775807) }
+    ensures { places.new ≡ puts places.old (2 * j) ((p + 1) % 2147483648 ∷ (p + 1) / 2147483648 ∷ []) }
 {
-    let at = 9 * n + 2 * j;
-    ws[at] = (p % 2147483648) as u32;
-    let next = at + 1;
-    ws[next] = (p / 2147483648) as u32;
+    let past = p + 1;
+    places[2 * j] = (past % PART) as u32;
+    places[2 * j + 1] = (past / PART) as u32;
 }
 
-// No place is remembered of v names.
-pub fn forget(ws: &mut [u32], n: usize, v: usize)
-    requires { (n ≤ 65535) × (9 * n + 2 * v ≤ length ws.old) }
-    ensures { ws.new ≡ puts ws.old (9 * n) (replicate (2 * v) 0) }
+// No place is remembered.
+pub fn forget(places: &mut [u32])
+    ensures { places.new ≡ replicate (length places.old) 0 }
 {
-    zero_from(ws, 9 * n, 2 * v);
+    places.fill(0);
 }
 
-// A frame goes to the stack: the next token of a value, the token past it, and whose value it is.
-fn push(ws: &mut [u32], at: usize, next: usize, end: usize, owner: usize)
-    requires { (at + 3 ≤ length ws.old) × (next ≤ 65536) × (end ≤ 65536) × (owner ≤ 65536) }
-    ensures { ws.new ≡ puts ws.old at (next ∷ end ∷ owner ∷ []) }
+// The whole value of the variable of rank j.
+fn value_of(columns: &Columns, j: usize) -> Frame
+    ensures { result ≡ record { next = start_of columns.now j; end = end_of columns.now j; owner = j } }
 {
-    ws[at] = next as u32;
-    let p = at + 1;
-    ws[p] = end as u32;
-    let q = p + 1;
-    ws[q] = owner as u32;
+    let key = columns.key(j);
+    Frame {
+        next: columns.start(key),
+        end: columns.end(key),
+        owner: j,
+    }
 }
 
-// The value of the tokens from `from` up to `to` goes to the output from place `at` on. Returns the place past it. The tokens from `next` up to `end`
-// are left of the value of the name of rank `owner`; it is v for the value asked for, which is no name's.
-#[tactic(auto, using(crate::proofs::Runs::dropped_turn), unfolding(crate::proofs::Turns::turns))]
+// The value of the variable of rank j goes to the output from place p on, if its place is remembered or it is empty. Returns the place past it.
+fn copy_value(
+    columns: &Columns,
+    places: &[u32],
+    j: usize,
+    out: &mut [u8],
+    p: usize,
+) -> Option<usize>
+    requires { Referred columns.now places.now j out.old p }
+    ensures { MatchOption result ((place_in places.now j ≡ 0) × (out.new ≡ out.old))
+        (λ past. (past ≡ p + length (value columns.now j)) × (out.new ≡ puts out.old p (value columns.now j))) }
+{
+    let length = columns.value_length(j);
+    if length == 0 {
+        return Some(p);
+    }
+    let from = place(places, j)?;
+    copy_within(out, from, length, p);
+    Some(p + length)
+}
+
+// The value of the tokens from `from` up to `to` goes to the output from place `at` on. Returns the place past it. A frame is left where it refers to a
+// variable whose value is not written yet, and comes back from the stack after that. The frame asked for is no variable's.
 pub fn write_value(
-    ws: &mut [u32],
-    pool: &[u8],
+    columns: &Columns,
+    places: &mut [u32],
+    stack: &mut [u32],
     out: &mut [u8],
     at: usize,
     from: usize,
     to: usize,
-    n: usize,
-    count: usize,
-    v: usize,
 ) -> usize
-    requires { Writable n count v (tables_in n count v ws.old pool.now) ws.old out.old at from to }
-    ensures { Written n v (tables_in n count v ws.old pool.now) ws.old out.old at
-        (value_between (tables_in n count v ws.old pool.now) from to) ws.new out.new result }
+    requires { Writable columns.now places.old stack.old out.old at from to }
+    ensures { Written columns.now places.old out.old at (value_between columns.now from to) places.new out.new result }
 {
-    let bottom = 12 * n;
-    let mut top = bottom;
-    let mut next = from;
-    let mut end = to;
-    let mut owner = v;
+    let top = stack.len();
+    let mut stack = Stack {
+        entries: stack,
+        top,
+    };
+    let mut frame = Frame {
+        next: from,
+        end: to,
+        owner: columns.variables(),
+    };
     let mut p = at;
     loop {
-        if next < end {
-            let kind = kind_at(ws, count, next);
-            if kind == TokenKind::VARIABLE {
-                let j = cell(ws, 7 * n, n, next);
-                let size = cell(ws, 8 * n, v, j);
-                let q = place(ws, n, j);
-                if size == 1 {
-                    next += 1;
-                } else if q == 0 {
-                    let key = cell(ws, 4 * n, v, j);
-                    top -= 3;
-                    push(ws, top, next + 1, end, owner);
-                    next = cell(ws, 5 * n, n, key);
-                    end = cell(ws, 6 * n, n, key);
-                    owner = j;
-                } else {
-                    copy_within(out, q - 1, size - 1, p);
-                    p += size - 1;
-                    next += 1;
+        if frame.next < frame.end {
+            let token = frame.next;
+            let kind = columns.kind(token);
+            frame.next = token + 1;
+            if kind == TokenKind::Variable as u32 {
+                let j = columns.rank(token);
+                match copy_value(columns, places, j, out, p) {
+                    Some(past) => p = past,
+                    None => {
+                        stack.push(frame);
+                        frame = value_of(columns, j);
+                    }
                 }
-            } else if kind == TokenKind::DROPPED {
-                next += 1;
-            } else {
-                p = copy_text(ws, pool, count, next, out, p);
-                next += 1;
+            } else if kind != TokenKind::Dropped as u32 {
+                p = columns.copy_text(token, out, p);
             }
         } else {
-            if top == bottom {
+            let Some(waiting) = stack.pop() else {
                 return p;
-            }
-            let size = cell(ws, 8 * n, v, owner);
-            remember(ws, n, owner, p + 2 - size);
-            next = cell(ws, top, 3, 0);
-            end = cell(ws, top, 3, 1);
-            owner = cell(ws, top, 3, 2);
-            top += 3;
+            };
+            remember(places, frame.owner, p - columns.value_length(frame.owner));
+            frame = waiting;
         }
     }
 }

@@ -5,8 +5,8 @@ use Rattle.lexer.proofs.flush_text.Goals as goal
 pub put4-requires : goal.put4-requires
 put4-requires c = search flush-room
 
-pub returns-then-start-used : goal.returns-then-start-used
-returns-then-start-used c = (search flush-one, search flush-put)
+pub returns-then-text : goal.returns-then-text
+returns-then-text c = (search flush-one, search flush-put)
 
 pub returns : goal.returns
 returns c = (search flush-none, search flush-same)

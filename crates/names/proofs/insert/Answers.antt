@@ -1,14 +1,16 @@
--- `names::insert` meets its contract. Assumes nothing.
-use Rattle.std.proofs.Common.{arith}
-use Rattle.names.proofs.Places.{taken, free}
+use Rattle.scan.proofs.Lists.{part-some}
+use Rattle.names.proofs.Naming.{search-names}
 use Rattle.names.proofs.Storing.{insert-dup, insert-new, place-in}
 use Rattle.names.proofs.insert.Goals as goal
 
-pub put_key-begin-requires : goal.put_key-begin-requires
-put_key-begin-requires c = let found = c in let begun = found in let S = begun.args in let f = free _ _ _ found.find_place-place.ensures _ c.in-Free.is in let I = begun.requires in (omega (arith, I.below), omega (arith, I.search.room, I.above), place-in S.first S.n S.count S.v S.key S.from S.end S.ws.now S.pool.now begun.requires _ found.text_at.ensures _ f.0, omega (arith, I.inside, I.small))
+pub find_place-requires : goal.find_place-requires
+find_place-requires c = rw (c.new-tokens.ensures, part-some c.args.ws.now c.args.first c.args.v) (search-names _ _ _ _ _ _ c.requires.search)
 
-pub returns-in-Taken : goal.returns-in-Taken
-returns-in-Taken c = let found = c in let begun = found in let S = begun.args in insert-dup S.first S.n S.count S.v S.key S.from S.end S.ws.now S.pool.now begun.requires _ found.text_at.ensures (taken _ _ _ found.find_place-place.ensures _ c.in-Taken.is).1
+pub put_key-begin-requires-clause-place : goal.put_key-begin-requires-clause-place
+put_key-begin-requires-clause-place c = place-in _ _ _ _ _ _ _ _ _ c.requires _ c.new-tokens.ensures _ c.text.ensures _ c.find_place.ensures _ c.in-Err.is
 
-pub returns-in-Free : goal.returns-in-Free
-returns-in-Free c = let put = c in let found = put in let begun = found in let S = begun.args in let f = free _ _ _ found.find_place-place.ensures _ c.in-Free.is in insert-new S.first S.n S.count S.v S.key S.from S.end S.ws.now S.pool.now begun.requires _ found.text_at.ensures _ f.0 _ put.put_key-begin.result f.2 put.put_key-begin.ensures
+pub returns-in_default : goal.returns-in_default
+returns-in_default c = insert-dup _ _ _ _ _ _ _ _ _ c.requires _ c.new-tokens.ensures _ c.text.ensures _ c.find_place.ensures _ c.in_default.is
+
+pub returns : goal.returns
+returns c = insert-new _ _ _ _ _ _ _ _ _ c.requires _ c.new-tokens.ensures _ c.text.ensures _ c.find_place.ensures _ c.in-Err.is _ _ c.put_key-begin.ensures.begin c.put_key-begin.ensures.stored

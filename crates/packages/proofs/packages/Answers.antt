@@ -1,14 +1,27 @@
--- `packages::packages` meets its contract. Assumes nothing.
+-- `packages::packages` meets its contract: each answer by the form of the records, their items and the room. Assumes nothing.
 use Rattle.std.proofs.Common.{sym, ◌∙◌}
-use Rattle.packages.proofs.Answers.{says-broken, says-items}
-use Rattle.rules.proofs.PackagesLaws.{value-small}
+use Rattle.std.proofs.lemmas.Result.{err_from_is_err_and}
+use Rattle.packages.proofs.Telling.{says-broken, says-malformed, says-short, says-written, says-items}
 use Rattle.packages.proofs.packages.Goals as goal
 
-pub answer_items-requires : goal.answer_items-requires
-answer_items-requires c = let a = c.args in (rw c.value_of-fifth.ensures (value-small 5 a.records.now), rw c.value_of-sixth.ensures (value-small 6 a.records.now))
+pub returns-then-not-is_records : goal.returns-then-not-is_records
+returns-then-not-is_records c = let s = says-broken c.args.records.now c.args.output.now (sym c.if-not-is_records.ensures) in record { answer = s.answer_is; written = s.output_is }
 
-pub returns-then-is_records : goal.returns-then-is_records
-returns-then-is_records c = let a = c.args in let pair = says-items a.records.now a.output.now (sym c.is_records.ensures ∙ c.if-is_records.true) c.value_of-fifth.ensures c.value_of-sixth.ensures (c.answer_items.ensures.answer, c.answer_items.ensures.written) in record { answer = pair.0; written = pair.1 }
+pub returns-in_err-need : goal.returns-in_err-need
+returns-in_err-need c =
+    let p = c in let v = p.new-values in
+    let k = err_from_is_err_and c.from_residual.result c.from_residual.ensures.1 in
+    let s = says-items p.args.records.now p.args.output.now (sym p.if-not-is_records.ensures) v.ensures.fifth v.ensures.sixth (says-malformed _ _ p.args.output.now _ p.in_err-need.ensures) in
+    record { answer = rw (k.1, k.2) s.answer_is; written = s.output_is }
 
-pub returns-else-is_records : goal.returns-else-is_records
-returns-else-is_records c = let a = c.args in let pair = says-broken a.records.now a.output.now (sym c.is_records.ensures ∙ c.if-is_records.false) in record { answer = pair.0; written = pair.1 }
+pub returns-then-output-need : goal.returns-then-output-need
+returns-then-output-need c =
+    let p = c in let v = p.new-values in let m = p.in_ok-need.ensures in
+    let s = says-items p.args.records.now p.args.output.now (sym p.if-not-is_records.ensures) v.ensures.fifth v.ensures.sixth (says-short v.result.fifth.now v.result.sixth.now p.args.output.now m.1 (rw m.0 at p.if-output-need.true)) in
+    record { answer = rw m.0 s.answer_is; written = s.output_is }
+
+pub returns : goal.returns
+returns c =
+    let p = c in let v = p.new-values in let m = p.in_ok-need.ensures in
+    let s = says-items p.args.records.now p.args.output.now (sym p.if-not-is_records.ensures) v.ensures.fifth v.ensures.sixth (says-written v.result.fifth.now v.result.sixth.now p.args.output.now m.1 (rw m.0 at p.if-output-need.false)) in
+    record { answer = rw m.0 s.answer_is; written = c.write.ensures ∙ s.output_is }

@@ -10,8 +10,8 @@ returns-then-workspace-room c = search workspace-short
 pub returns-then-pool-n : goal.returns-then-pool-n
 returns-then-pool-n c = search pool-short
 
-pub returns-then-is_well_formed : goal.returns-then-is_well_formed
-returns-then-is_well_formed c = search was_read
+pub returns-then-not-is_well_formed : goal.returns-then-not-is_well_formed
+returns-then-not-is_well_formed c = search not-utf8
 
 pub returns : goal.returns
-returns c = search not-utf8
+returns c = search was_read

@@ -5,8 +5,8 @@ use Rattle.tokens.proofs.copy_text.Goals as goal
 pub copy-requires : goal.copy-requires
 copy-requires c = search copy-fits
 
-pub returns-then-entry_at-le-VARIABLE : goal.returns-then-entry_at-le-VARIABLE
-returns-then-entry_at-le-VARIABLE c = (search copied-to, search copied)
+pub returns-then-entry_at : goal.returns-then-entry_at
+returns-then-entry_at c = (search copied-to, search copied)
 
 pub bounds-out-to : goal.bounds-out-to
 bounds-out-to c = search byte_fits

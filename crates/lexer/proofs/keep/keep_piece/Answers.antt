@@ -1,20 +1,23 @@
 -- `lexer::keep::keep_piece` meets its contract. Assumes nothing.
-use Rattle.std.proofs.Common.{rules}
-use Rattle.lexer.proofs.Keeps.{next-room, run_long, kept_run, kept-text, kept-none}
+use Rattle.std.proofs.Common.{◌∙◌, sym, ap}
+use Rattle.tokens.specs.declared.TokenKind.TheVariants.{Text}
+use Rattle.lexer.specs.Pieces.{kind_of}
+use Rattle.lexer.proofs.Keeps.{next-room, kept_run, kept-text, kept-none}
 use Rattle.lexer.proofs.Lexemes.{reads-run, reads-one}
+use Rattle.lexer.proofs.Writes.{kind_named}
 use Rattle.lexer.proofs.keep.keep_piece.Goals as goal
 
 pub keep_plain-end-requires : goal.keep_plain-end-requires
-keep_plain-end-requires c = (search rules, search next-room)
+keep_plain-end-requires c = search next-room
 
-pub shape_of-pool-then-class_in-lt-BLANK : goal.shape_of-pool-then-class_in-lt-BLANK
-shape_of-pool-then-class_in-lt-BLANK c = search run_long
+pub returns-then-is_plain : goal.returns-then-is_plain
+returns-then-is_plain c =
+    let t = sym c.is_plain.ensures ∙ c.if-is_plain.true in
+    let k = c.keep_plain-end.ensures in
+    rw c.new.ensures (reads-run _ _ _ c.requires.0 t k.0, kept_run _ _ _ _ c.requires.0 c.requires.1 _ _ t k.0 k.1)
 
-pub returns-then-class_in-lt-BLANK : goal.returns-then-class_in-lt-BLANK
-returns-then-class_in-lt-BLANK c = rw c.new.ensures (search reads-run, search kept_run)
+pub returns-in-Text : goal.returns-in-Text
+returns-in-Text c = (reads-one _ _ _ _ _ _ c.in-Ok.ensures, kept-text _ _ _ _ _ _ _ (ap kind_of c.in-Text.is) c.keep_text.ensures)
 
-pub returns-then-kind-eq-TEXT : goal.returns-then-kind-eq-TEXT
-returns-then-kind-eq-TEXT c = (search reads-one, search kept-text)
-
-pub returns-else-kind-eq-TEXT : goal.returns-else-kind-eq-TEXT
-returns-else-kind-eq-TEXT c = (search reads-one, search kept-none)
+pub returns-in_default-kind : goal.returns-in_default-kind
+returns-in_default-kind c = (reads-one _ _ _ _ _ _ c.in-Ok.ensures, kept-none _ _ _ _ _ _ (λ e. c.in_default-kind.not-Text (kind_named _ Text e)))

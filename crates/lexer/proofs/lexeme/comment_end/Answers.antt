@@ -1,6 +1,9 @@
 -- `lexer::lexeme::comment_end` meets its contract. Assumes nothing.
-use Rattle.lexer.proofs.Marks.{comment-run}
+use Rattle.std.proofs.Common.{rules}
+use Rattle.rules.specs.Bytes.{is}
+use Rattle.rules.specs.Lexing.{comment, is_line_end}
 use Rattle.lexer.proofs.lexeme.comment_end.Goals as goal
 
 pub returns : goal.returns
-returns c = search comment-run
+unfolding comment is_line_end is
+returns c = c.next_stop.ensures is_line_end (λ b r q. search rules)

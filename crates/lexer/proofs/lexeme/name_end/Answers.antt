@@ -1,12 +1,7 @@
+-- `lexer::lexeme::name_end` meets its contract. Assumes nothing.
 use Rattle.std.proofs.Common.{rules}
-use Rattle.lexer.proofs.Lexemes.{on-run, name-more, name-stop}
+use Rattle.rules.specs.Lexing.{is_identifier}
 use Rattle.lexer.proofs.lexeme.name_end.Goals as goal
 
-pub loop-j-init : goal.loop-j-init
-loop-j-init c = search (rules, on-run)
-
-pub loop-j-preserved : goal.loop-j-preserved
-loop-j-preserved c = search name-more
-
 pub returns : goal.returns
-returns c = search name-stop
+returns c = c.run_end.ensures is_identifier (λ b r q. search rules)

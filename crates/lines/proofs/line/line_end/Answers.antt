@@ -1,14 +1,14 @@
-use Rattle.lines.proofs.Starts.{end-begin, end-turn, end-newline, end-text}
+-- `lines::line::line_end` meets its contract. Assumes nothing.
+use Rattle.std.proofs.Common.{◌≡◌, arith, rules, tests}
+use Rattle.std.proofs.lemmas.Iterator.{first_from_Range}
+use Rattle.rules.specs.Tokens.{new_line_kind}
+use Rattle.tokens.specs.Entries.{token_at}
+use Rattle.lines.proofs.Starts.{ended}
 use Rattle.lines.proofs.line.line_end.Goals as goal
 
-pub loop-i-init : goal.loop-i-init
-loop-i-init c = end-begin _ _ _ c.requires.1
-
-pub returns-then-kind_at-eq-NEW_LINE : goal.returns-then-kind_at-eq-NEW_LINE
-returns-then-kind_at-eq-NEW_LINE c = end-newline c.args.count c.args.j c.args.ws.now c.loop-i.i c.loop-i.invariant _ c.kind_at.ensures c.if-kind_at-eq-NEW_LINE.true
-
-pub loop-i-preserved : goal.loop-i-preserved
-loop-i-preserved c = end-turn c.args.count c.args.j c.args.ws.now c.loop-i.i c.loop-i.invariant _ c.kind_at.ensures c.loop-i-test.true c.if-kind_at-eq-NEW_LINE.false
-
 pub returns : goal.returns
-returns c = end-text c.args.count c.args.j c.args.ws.now c.loop-i.i c.loop-i.invariant c.loop-i-test.false
+returns c =
+    let ts = c.args.tokens.now in
+    rw (c.unwrap_or.ensures, c.len-2.ensures, ← c.len.ensures)
+    (ended ts c.args.from c.len.result c.find.result c.len.ensures (omega arith)
+    (first_from_Range _ _ _ _ (λ i. (token_at ts i).kind ≡ new_line_kind) (λ i. (token_at ts i).kind ≡ new_line_kind → ⊥) c.find.ensures.ran (λ x q k. grind (arith, tests)) (λ x q k. (search rules, grind (arith, tests)))))

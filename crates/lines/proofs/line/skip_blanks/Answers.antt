@@ -1,18 +1,14 @@
-use Rattle.std.proofs.Common.{arith}
-use Rattle.lines.proofs.Starts.{skip-begin, skip-live, skip-turn, skip-done}
+-- `lines::line::skip_blanks` meets its contract. Assumes nothing.
+use Rattle.std.proofs.Common.{◌≡◌, arith, rules, tests}
+use Rattle.std.proofs.lemmas.Iterator.{first_from_Range}
+use Rattle.rules.specs.Tokens.{blank_kind}
+use Rattle.tokens.specs.Entries.{token_at}
+use Rattle.lines.proofs.Starts.{skipped}
 use Rattle.lines.proofs.line.skip_blanks.Goals as goal
 
-pub loop-i-init : goal.loop-i-init
-loop-i-init c = skip-begin _ _ _
-
-pub overflow_add-i : goal.overflow_add-i
-overflow_add-i c = omega (arith, skip-live c.args.count c.args.j c.args.ws.now c.loop-i.i c.kind_at.result c.loop-i.invariant c.kind_at.ensures c.loop-i-test.true)
-
-pub loop-i-smaller : goal.loop-i-smaller
-loop-i-smaller c = omega (arith, skip-live c.args.count c.args.j c.args.ws.now c.loop-i.i c.kind_at.result c.loop-i.invariant c.kind_at.ensures c.loop-i-test.true)
-
-pub loop-i-preserved : goal.loop-i-preserved
-loop-i-preserved c = skip-turn c.args.count c.args.j c.args.ws.now c.loop-i.i c.kind_at.result c.loop-i.invariant c.kind_at.ensures c.loop-i-test.true
-
 pub returns : goal.returns
-returns c = skip-done c.args.count c.args.j c.args.ws.now c.loop-i.i c.kind_at.result c.loop-i.invariant c.kind_at.ensures c.loop-i-test.false
+returns c =
+    let ts = c.args.tokens.now in
+    rw (c.unwrap_or.ensures, c.len-2.ensures, ← c.len.ensures)
+    (skipped ts c.args.from c.len.result c.find.result c.len.ensures (omega arith)
+    (first_from_Range _ _ _ _ (λ i. (token_at ts i).kind ≡ blank_kind → ⊥) (λ i. (token_at ts i).kind ≡ blank_kind) c.find.ensures.ran (λ x q k. grind (arith, tests)) (λ x q k. (search rules, grind (arith, tests)))))

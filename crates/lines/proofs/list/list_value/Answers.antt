@@ -1,10 +1,11 @@
 -- `lines::list::list_value` meets its contract. Assumes nothing.
+use Rattle.std.proofs.Common.{refl, sym, true, false}
 use Rattle.lines.proofs.Parts.{keeps_then}
 use Rattle.lines.proofs.Turns.{flushed, lists-open, lists-all}
 use Rattle.lines.proofs.list.list_value.Goals as goal
 
-pub returns-then-is_quote : goal.returns-then-is_quote
-returns-then-is_quote c = (c.turns-s.ensures.2.keeps, lists-open c.args.n c.args.from c.args.end c.turns-s.result.rows c.turns-s.result.start c.turns-s.result.any c.turns-s.result.escaped c.turns-s.result.quote c.turns-s.result.opener c.args.ws.now c.turns-s.new.ws c.turns-s.ensures.2 _ c.is_quote.ensures c.if-is_quote.true)
+pub returns-in-Some : goal.returns-in-Some
+returns-in-Some c = let R = rw c.in-Some.is at c.turns-state.ensures.reads in record { keeps = R.keeps; lists = lists-open _ _ _ _ _ _ _ _ _ _ _ R true (sym c.in-Some.open.quotes) refl }
 
-pub returns : goal.returns
-returns c = let F = flushed c.args.n c.args.from c.args.end c.args.end c.turns-s.result.rows c.turns-s.result.start c.turns-s.result.any c.turns-s.new.ws c.turns-s.ensures.0 c.turns-s.ensures.1 c.turns-s.ensures.2.is_any c.turns-s.ensures.2.within _ _ c.flush.ensures.0 c.flush.ensures.1 in (keeps_then c.turns-s.ensures.2.keeps F.keeps, lists-all c.args.n c.args.from c.args.end c.turns-s.result.rows c.turns-s.result.start c.turns-s.result.any c.turns-s.result.escaped c.turns-s.result.quote c.turns-s.result.opener c.args.ws.now c.turns-s.new.ws c.turns-s.ensures.2 _ c.is_quote.ensures c.if-is_quote.false _ _ F)
+pub returns-in-None : goal.returns-in-None
+returns-in-None c = let F = c.turns-state.ensures.fits in let R = rw c.in-None.is at c.turns-state.ensures.reads in let f = flushed _ _ _ _ _ _ _ _ F.0 F.1 R.is_any R.within _ _ c.flush.ensures.rows c.flush.ensures.stored in record { keeps = keeps_then R.keeps f.keeps; lists = lists-all _ _ _ _ _ _ _ _ _ _ _ R false refl refl _ _ f }

@@ -1,10 +1,11 @@
 -- `lines::list::role_at` meets its contract. Assumes nothing.
+use Rattle.std.proofs.Common.{refl, ◌∙◌, ap}
 use Rattle.lines.proofs.Roles.{role-inside, role-outside}
-use Rattle.lines.specs.Rows.{role_of}
+use Rattle.lines.specs.Rows.{role_of, kind_of}
 use Rattle.lines.proofs.list.role_at.Goals as goal
 
-pub returns-then-is_quote : goal.returns-then-is_quote
-returns-then-is_quote c = λ pool q e. role-inside c.args.end c.args.ws.now pool c.args.i c.args.quote q e _ c.is_quote.ensures c.kind_at-kind.result c.kind_at-kind.ensures c.if-is_quote.true c.kind_at.result c.kind_at.ensures (role_of c.role_inside.result) c.role_inside.ensures
+pub returns-in-None-clause-role : goal.returns-in-None-clause-role
+returns-in-None-clause-role c = λ y q e. role-outside c.args.tokens.now c.args.i 0 q (e ∙ ap kind_of c.in-None.is) _ c.kind-kind.ensures refl (role_of c.role_outside.result) c.role_outside.ensures
 
-pub returns : goal.returns
-returns c = λ pool q e. role-outside c.args.end c.args.ws.now pool c.args.i c.args.quote q e _ c.is_quote.ensures c.kind_at-kind.result c.kind_at-kind.ensures c.if-is_quote.false (role_of c.role_outside.result) c.role_outside.ensures
+pub returns-in-Some-clause-role : goal.returns-in-Some-clause-role
+returns-in-Some-clause-role c = λ y q e. role-inside c.args.tokens.now c.args.i c.in-Some.open.kind q (e ∙ ap kind_of c.in-Some.is) _ c.kind-kind.ensures c.in-Some.open.quotes _ c.kind.ensures (role_of c.role_inside.result) c.role_inside.ensures

@@ -1,12 +1,21 @@
 use Rattle.std.proofs.Common.{arith}
-use Rattle.records.proofs.Fieldings.{each_fits, each-done}
+use Rattle.records.proofs.Fieldings.{presentable, presented}
 use Rattle.records.proofs.write.write_fields.Goals as goal
 
-pub forget-requires : goal.forget-requires
-forget-requires c = let q = c.requires.room in (q.small, omega (arith, q.room, q.few, q.tokens))
-
-pub write_each-requires : goal.write_each-requires
-write_each-requires c = let S = c.args in each_fits S.n S.count S.v S.pool.now S.ws.now S.out.now c.requires _ c.forget.ensures
+pub write_present-requires : goal.write_present-requires
+write_present-requires c =
+    let S = c.args in
+    let F = c.split_at_mut-front.ensures in
+    let T = c.split_at_mut-scratch.ensures in
+    let P = c.split_at_mut-places.ensures in
+    presentable S.n S.count S.v S.ws.now S.pool.now c.requires.room S.out.now c.requires _ _ _ _ _ _ F.front F.back T.front T.back P.front P.back
 
 pub returns : goal.returns
-returns c = let at-write-each = c in let at_forget = at-write-each in let at-args = at_forget in let S = at-args.args in each-done S.n S.count S.v S.pool.now S.ws.now S.out.now at-args.requires _ at_forget.forget.ensures at-write-each.write_each.ensures
+returns c =
+    let S = c.args in
+    let F = c.split_at_mut-front.ensures in
+    let T = c.split_at_mut-scratch.ensures in
+    let P = c.split_at_mut-places.ensures in
+    let W = c.write_present in
+    presented S.n S.count S.v S.ws.now S.pool.now c.requires.room S.out.now c.requires _ _ _ _ _ _ F.front F.back T.front T.back P.front P.back
+    W.new.places W.new.stack W.new.out W.result (omega arith) (omega arith) W.ensures.is_end W.ensures.bytes
