@@ -98,6 +98,7 @@ impl From<Number> for u32 {
 }
 
 // Why a text has no records: the reader's answers 1 to 17, with what their details tell.
+// Kept: fields and kinds by the numbers that a detail tells (the C interface); field 0 is none, where a variable is resolved.
 #[derive(Clone, Copy, Debug, PartialEq, Eq)]
 pub enum Refusal {
     TooLong,

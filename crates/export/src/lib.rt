@@ -14,7 +14,7 @@ use pkg_config::read;
 
 pub mod version_calls;
 
-// The sizes of the exported calls.
+// The sizes of the exported calls. Kept: sizes belong to a named type, as limits do.
 #[derive(Clone, Copy)]
 pub struct Size;
 
@@ -48,6 +48,7 @@ fn put_detail(detail: &mut [u8], answer: Answer)
 }
 
 // With a lent workspace, counted in entries of 32 bits.
+// Kept: the arguments are those of the C call.
 pub fn cabbagelute_read_in(
     text: &[u8],
     workspace: &mut [u32],
@@ -67,6 +68,7 @@ pub fn cabbagelute_read_in(
 }
 
 // The same, said without what the workspace holds.
+// Kept: the arguments are those of the C call.
 fn read_with(
     text: &[u8],
     workspace: &mut [u32],

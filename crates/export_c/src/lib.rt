@@ -1,4 +1,5 @@
 // The calls for C: the functions of crate `export`, under their names and with their clauses. include/cabbagelute.h says every promise in words.
+// Kept: each call repeats the arguments and clauses of its export, as the C interface needs.
 #![tactic(auto)]
 
 ghost use Rattle.std.specs.Prelude.{◌≡◌};

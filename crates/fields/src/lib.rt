@@ -7,7 +7,7 @@ ghost use Rattle.rules.specs.Lines.{is_string};
 ghost use Rattle.fields.specs.Seen.{field_number, bit_at};
 ghost use Rattle.fields.specs.Numbers.{number_of, number_or_zero, key_of, has_key};
 
-// Limits belong to a named type, as constants. It has no values.
+// Kept: limits belong to a named type, as constants, a rule here. It has no values.
 pub enum Limit {}
 
 impl Limit {
@@ -89,7 +89,7 @@ fn with_key(fields: &[Field], key: &[u8]) -> Option<Field>
 
 // "The fields already seen are kept as ten bits, one for each field number."
 #[derive(Clone, Copy)]
-pub struct Seen(u32);
+pub struct Seen(pub u32);
 
 impl Seen {
     pub const NONE: Seen = Seen(0);

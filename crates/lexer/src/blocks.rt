@@ -21,7 +21,7 @@ pub fn run_end<F: Fn(u8) -> bool>(passes: F, text: &[u8], i: usize) -> usize
     text.len()
 }
 
-// Whether any byte is one that is looked for. All are looked at, with no early end.
+// False only where no byte is one that is looked for: all that its callers ask. A true that is wrong would cost them time alone.
 pub fn any_in<F: Fn(u8) -> bool>(stops: &F, block: &[u8]) -> bool
     requires { F.IsAlwaysCallable stops.now }
     ensures { (p : ℕ → Bool) → ((b : ℕ) (r : Bool) → F.post stops.now b r → r ≡ p b) → result ≡ false → (k : ℕ) → k < length block.now → p (get_or block.now k 0) ≡ false }

@@ -1,4 +1,5 @@
 // One piece of the text, and its bytes to the pool where it is Text: a run of text is kept while its end is looked for.
+// Kept: places in text and pool, and not what is left of them, since tokens and refusals tell places.
 ghost use Rattle.std.specs.Prelude.{◌≡◌, ◌+◌, ◌≤◌, ◌<◌, length, take, drop};
 ghost use Rattle.rules.specs.Bytes.{run};
 ghost use Rattle.scan.specs.Stores.{puts};
@@ -13,6 +14,7 @@ use tokens::TokenKind;
 const NEAR: usize = 32;
 
 // The `len` bytes of the text from place `from` on go to the pool from place `used` on.
+// Kept: a part of one buffer, and a place in another; a struct of them would be made for one call.
 pub fn keep_text(text: &[u8], from: usize, len: usize, pool: &mut [u8], used: usize)
     requires { (from + len ≤ length text.now) × (used + len ≤ length pool.old) }
     ensures { pool.new ≡ puts pool.old used (take len (drop from text.now)) }

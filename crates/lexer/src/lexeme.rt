@@ -1,4 +1,5 @@
 // One piece at a place of the text (document 01, "Lexing"), by the classes of its bytes.
+// Kept: places in text and pool, and not what is left of them, since tokens and refusals tell places.
 ghost use Rattle.std.specs.Prelude.{◌≡◌, ◌+◌, ◌≤◌, ◌<◌, ℕ, Bool, length, drop, get_or};
 ghost use Rattle.rules.specs.Bytes.{run};
 ghost use Rattle.rules.specs.Lexing.{is_identifier, comment, second, after_backslash, after_brace, after_dollar};

@@ -1,4 +1,5 @@
 // From bytes to tokens (document 01, "Lexing"; upstream lexer.rs): a pass that looks for the first refusal, and a pass that fills workspace and pool.
+// Kept: places in text and pool, and not what is left of them, since tokens and refusals tell places.
 #![tactic(auto)]
 
 pub mod blocks;
@@ -134,6 +135,7 @@ fn flush_text(ws: &mut [u32], count: usize, text: Gathered) -> usize
 }
 
 // The number of a kind, as the workspace holds it.
+// Kept: `as` with its clause; a `From` would have the same body.
 fn kind_number(kind: TokenKind) -> u32
     ensures { result ≡ kind_of kind }
 {
@@ -141,6 +143,7 @@ fn kind_number(kind: TokenKind) -> u32
 }
 
 // A token that isn't Text, at place i. Returns the pool's end.
+// Kept: no plainer: three lent buffers and a place in each; a struct of them would be made for one call.
 fn put_token(
     text: &[u8],
     ws: &mut [u32],

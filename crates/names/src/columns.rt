@@ -1,4 +1,5 @@
 // Names looked for among the keys of variables, which are tokens in byte order of their names.
+// Kept: no heap, so a variable is known by its rank, and a token by its place, in lent columns.
 ghost use Rattle.std.specs.Prelude.{◌≡◌, ◌≤◌, ◌<◌, length, slice_index};
 ghost use Rattle.rules.specs.Bytes.{overwrite};
 ghost use Rattle.rules.specs.Variables.{rank_of};

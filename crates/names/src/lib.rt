@@ -24,6 +24,7 @@ pub struct Assigned {
 
 // Key goes to place p of the v sorted ones, which begin at `first`; the answer is where they begin now. The fewer of those before and after it move, by one
 // place in a part of their own: a move by a constant becomes one move of memory.
+// Kept: a place among places in one slice; a struct of the four numbers would be made for one call.
 fn put_key(ws: &mut [u32], first: usize, v: usize, p: usize, key: usize) -> usize
     requires below { 0 < first }
     requires above { first + v < length ws.old }
@@ -46,6 +47,7 @@ fn put_key(ws: &mut [u32], first: usize, v: usize, p: usize, key: usize) -> usiz
 }
 
 // The v sorted keys, which begin at `first`, go to 4n: so they stand once all lines are read.
+// Kept: a move of keys from place to place of one slice.
 #[tactic(auto, using(scan::proofs::Stores::stores))]
 pub fn settle(ws: &mut [u32], n: usize, first: usize, v: usize)
     requires { (4 * n ≤ first) × (first + v ≤ length ws.old) }
@@ -55,7 +57,7 @@ pub fn settle(ws: &mut [u32], n: usize, first: usize, v: usize)
 }
 
 // Stores a variable with the v whose keys begin at `first`: where they begin then. None where its name is assigned already, and nothing changes.
-// Kept over the whole workspace: a line that is read also writes kinds of tokens, rows and fields there.
+// Kept over the whole workspace: a line that is read also writes kinds of tokens, rows and fields there: three slices would go along in place of one.
 pub fn insert(
     ws: &mut [u32],
     pool: &[u8],
@@ -80,6 +82,7 @@ pub fn insert(
 }
 
 // Looks up what the tokens refer to.
+// Kept: n, count and v by themselves, since `Lookable` asks less of v than a `Layout` does.
 pub fn look_up(ws: &mut [u32], pool: &[u8], n: usize, count: usize, v: usize)
     requires { Lookable n count v ws.old pool.now }
     ensures { ws.new ≡ puts ws.old (7 * n) (ranks (variables_in n count v ws.old pool.now) (decode count ws.old pool.now)) }

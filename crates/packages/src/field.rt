@@ -10,6 +10,7 @@ pub enum Field {
 
 impl Field {
     // The kind of its record.
+    // Kept: `as` with its clause; a `From` would have the same body.
     pub fn number(self) -> u8
         ensures { result ≡ field_number self }
     {

@@ -20,6 +20,7 @@ enum Kind {
 }
 
 impl Kind {
+    // Kept: `as` with its clause; a `From` would have the same body.
     fn number(self) -> u16
         ensures { result ≡ kind_number self }
     {

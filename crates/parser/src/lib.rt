@@ -88,6 +88,7 @@ fn keep_field(
 }
 
 // A line with `=`: "the value is read, then 10, then 11".
+// Kept: five values, each of a type of its own; so in the functions below.
 fn assign(
     ws: &mut [u32],
     pool: &[u8],
@@ -237,6 +238,7 @@ fn read_lines(ws: &mut [u32], pool: &[u8], layout: Layout) -> Result<usize, Refu
 }
 
 // Reads the lines of the `count` tokens: how many variables there are, with the file in the workspace, or the first refusal.
+// Kept: its clause, `Parses`, speaks of the two numbers; their `Layout` is made here.
 pub fn parse(ws: &mut [u32], pool: &[u8], n: usize, count: usize) -> Result<usize, Refusal>
     requires { Parsable n count ws.old }
     ensures { Parses n count ws.old ws.new pool.now result × Beyond n ws.old ws.new }

@@ -10,6 +10,7 @@ use crate::visits::{Progress, Rules, TooLarge, Visited};
 use scan::column::entry;
 
 // A set of blocks: the bits of a word.
+// Kept beside `fields::Seen`: sets of other things, of other sizes; a type for both would say neither.
 #[derive(Clone, Copy)]
 pub struct Blocks(pub u32);
 
@@ -46,6 +47,7 @@ impl Blocks {
 }
 
 // Block b waits for the variable to which token j refers.
+// Kept: no heap, so a variable is known by its rank, and a token by its place, in lent columns.
 fn mark(ranks: &[u32], waiters: &mut [u32], j: usize, b: u32)
     requires { b < 32 }
     ensures { waiters.new ≡ marked_at ranks.now j b waiters.old }

@@ -11,6 +11,7 @@ use crate::visits::{Progress, Rules, TooLarge, Unresolved};
 use scan::column::column;
 use scan::store::zero_from;
 use tokens::table::Table;
+use workspace::layout::Layout;
 
 pub mod blocks;
 pub mod sums;
@@ -82,6 +83,7 @@ impl<'a> Progress<'a> {
 }
 
 // The passes in four columns, which are clear, as one value.
+// Kept: made where the columns are split, the proof did not close: their final values are not known there.
 fn run_by(
     rules: Rules,
     lengths: &mut [u32],
@@ -131,17 +133,11 @@ fn kept(settled: Result<(), Unresolved>, v: usize) -> usize
 }
 
 // The passes over the map of the variables, in columns that are cleared before; of all that they write the lengths stay, where all variables have values.
-fn resolve_in(
-    map: &[u32],
-    pool: &[u8],
-    n: usize,
-    count: usize,
-    v: usize,
-    columns: &mut [u32],
-) -> Outcome
-    requires { Mapped n count v map.now columns.old }
-    ensures { Resolved n count v pool.now map.now columns.new result.settled result.passes }
+fn resolve_in(map: &[u32], pool: &[u8], layout: Layout, columns: &mut [u32]) -> Outcome
+    requires { Mapped layout.n layout.count layout.v map.now columns.old }
+    ensures { Resolved layout.n layout.count layout.v pool.now map.now columns.new result.settled result.passes }
 {
+    let Layout { n, count, v } = layout;
     let tokens = Table::new(map, pool, count);
     let rules = Rules {
         tokens: &tokens,
@@ -158,12 +154,11 @@ fn resolve_in(
 }
 
 // The lengths of all variables' values, or why there are none. All else in the columns that it uses becomes 0.
-// Kept: the five arguments are those of its contract, `Resolves`, and of the stages beside it.
-pub fn resolve_variables(ws: &mut [u32], pool: &[u8], n: usize, count: usize, v: usize) -> Outcome
-    requires { Room n count v ws.old }
-    ensures { Resolves n count v pool.now ws.old ws.new result.settled result.passes }
+pub fn resolve_variables(ws: &mut [u32], pool: &[u8], layout: Layout) -> Outcome
+    requires { Room layout.n layout.count layout.v ws.old }
+    ensures { Resolves layout.n layout.count layout.v pool.now ws.old ws.new result.settled result.passes }
 {
-    let (map, rest) = ws.split_at_mut(8 * n);
-    let (columns, _beyond) = rest.split_at_mut(4 * v);
-    resolve_in(map, pool, n, count, v, columns)
+    let (map, rest) = ws.split_at_mut(8 * layout.n);
+    let (columns, _beyond) = rest.split_at_mut(4 * layout.v);
+    resolve_in(map, pool, layout, columns)
 }

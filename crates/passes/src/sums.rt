@@ -24,6 +24,7 @@ pub enum Stop {
 }
 
 // What sums read: the tokens; by token the rank of the variable that it refers to; by rank the length of the value + 1, 0 for none.
+// Kept beside `write_value` of writer: it measures by lengths, before a byte is written.
 #[derive(Clone, Copy)]
 pub struct View<'a> {
     pub tokens: &'a Table<'a>,

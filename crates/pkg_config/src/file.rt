@@ -21,9 +21,10 @@ use records::measure::{Stop, measure};
 use records::write::write_fields;
 use scan::column::column;
 use tokens::table::Table;
-use writer::columns::Layout;
+use workspace::layout::Layout;
 
 // What is shown of the key of the variable of rank i.
+// Kept: no heap, so a variable is known by its rank, and a token by its place, in lent columns.
 fn key_name(tokens: &Table, keys: &[u32], i: usize) -> Name
     ensures { Names result (key_at (named tokens.now keys.now) i) }
 {
@@ -65,6 +66,7 @@ fn field_refusal(tokens: &Table, why: Stop) -> Refusal
 }
 
 // The records, where the output has room for all of them.
+// Kept: no plainer: three lent buffers, all different, which go on to `write_fields` one by one.
 fn write_records(
     ws: &mut [u32],
     pool: &[u8],
@@ -80,7 +82,7 @@ fn write_records(
     if room < need {
         return Err(Refusal::OutputShort(need));
     }
-    write_fields(ws, pool, output, layout.n, layout.count, layout.v);
+    write_fields(ws, pool, output, layout);
     Ok(need)
 }
 
@@ -95,7 +97,7 @@ fn resolve_fields(
     ensures { Ends layout.n (after_variables (file_in layout.n layout.count layout.v ws.old pool.now) (tables_in layout.n layout.count layout.v ws.old pool.now).values)
         ws.old output.old ws.new output.new result }
 {
-    match measure(ws, pool, layout.n, layout.count, layout.v) {
+    match measure(ws, pool, layout) {
         Ok(bytes) => write_records(ws, pool, output, layout, bytes),
         Err(why) => Err(field_refusal(&Table::new(ws, pool, layout.count), why)),
     }
@@ -113,7 +115,7 @@ pub fn resolve_file(
 {
     let Layout { n, count, v } = layout;
     look_up(ws, pool, n, count, v);
-    match resolve_variables(ws, pool, n, count, v).settled {
+    match resolve_variables(ws, pool, layout).settled {
         Ok(()) => resolve_fields(ws, pool, output, layout),
         Err(why) => Err(refusal_in(ws, pool, layout, why)),
     }

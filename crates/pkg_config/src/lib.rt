@@ -15,9 +15,10 @@ use lexer::lex;
 use parser::parse;
 use scan::store::zero;
 use utf8::is_well_formed;
-use writer::columns::Layout;
+use workspace::layout::Layout;
 
 // The lines of the tokens, then what they say.
+// Kept: a `Layout` has the number of variables, which `parse` tells only here.
 fn read_tokens(
     ws: &mut [u32],
     pool: &[u8],

@@ -1,4 +1,5 @@
 // A reader that holds the text and its own place (document 01, "What must change shape"): thin functions over `step_at` and `end_at`.
+// Kept: a place in the text, of which its theorems speak.
 #![tactic(auto)]
 
 ghost use Rattle.std.specs.Prelude.{◌≡◌};
@@ -12,7 +13,7 @@ pub struct Reader<'a> {
     pub at: usize,
 }
 
-// What stands at a place of the text.
+// What stands at a place of the text. Kept: three ways, of which its theorems speak.
 #[derive(Clone, Copy)]
 pub enum Step {
     // a lexeme: its kind, and the place past it

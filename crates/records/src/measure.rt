@@ -8,6 +8,7 @@ use passes::sums;
 use passes::sums::View;
 use scan::column::{column, entry};
 use tokens::table::Table;
+use workspace::layout::Layout;
 
 // Fields have the numbers 1 to LAST_FIELD; those from FIRST_LIST on are lists, the others strings. Kept: by number, as `measure_fields` counts them and as a
 // refusal tells them.
@@ -49,6 +50,7 @@ impl<'a> Values<'a> {
     }
 
     // `need` bytes, and the records of the arguments of field f in the rows from `row` on.
+    // Kept: four numbers of one sum; a struct of them would be made for one call.
     fn rows(self, f: usize, need: u64, row: usize, rows: usize) -> Result<u64, Stop>
         requires { (row < 4294967296) × (rows < 4294967296) × (need < 4611686018427387904) }
         ensures { result ≡ measure_rows (size_in self.entry.view.tokens.now self.entry.view.ranks.now self.entry.view.lengths.now) self.entry.starts.now self.entry.ends.now f need row rows }
@@ -78,11 +80,11 @@ impl<'a> Values<'a> {
 }
 
 // The bytes that the records of all fields need, or the first refusal.
-// Kept: the five arguments are those of its contract, `measure_in`, and of the stages beside it.
-pub fn measure(ws: &[u32], pool: &[u8], n: usize, count: usize, v: usize) -> Result<u64, Stop>
-    requires { Room n count v ws.now }
-    ensures { result ≡ measure_in n count v ws.now pool.now }
+pub fn measure(ws: &[u32], pool: &[u8], layout: Layout) -> Result<u64, Stop>
+    requires { Room layout.n layout.count layout.v ws.now }
+    ensures { result ≡ measure_in layout.n layout.count layout.v ws.now pool.now }
 {
+    let Layout { n, count, v } = layout;
     let tokens = Table::new(ws, pool, count);
     let view = View {
         tokens: &tokens,

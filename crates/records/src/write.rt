@@ -10,13 +10,15 @@ ghost use Rattle.records.specs.Writers.{Stands, Wrote};
 
 use fields::Field;
 use scan::store::copy;
-use writer::columns::{Columns, Layout};
+use workspace::layout::Layout;
+use writer::columns::Columns;
 use writer::{forget, write_value};
 
 // The kind of an argument's record; that of a field's is the field's number.
 const ARGUMENT: u16 = 11;
 
 // The head of a record: the payload's length in four bytes, the kind in two.
+// Kept: the clause says what becomes of the whole output, so it needs the place.
 fn put_head(out: &mut [u8], at: usize, size: u32, kind: u16)
     requires { at + 6 ≤ length out.old }
     ensures { out.new ≡ puts out.old at (head size kind) }
@@ -26,6 +28,7 @@ fn put_head(out: &mut [u8], at: usize, size: u32, kind: u16)
 }
 
 // The number of a field, which is the kind of its record.
+// Kept: `as` with its clause; a `From` would have the same body.
 fn number(field: Field) -> u16
     ensures { result ≡ number_of field }
 {
@@ -120,6 +123,7 @@ impl<'t, 'a> Writer<'t, 'a> {
 
 // The records of the fields present to the output's front. Returns how many bytes they are. `front` is the workspace up to the scratch, whose parts are the
 // places and the stack; `fields` are the entries of all fields.
+// Kept: made where the workspace is split, the proof did not close: its final value is not known there.
 fn write_present(
     front: &[u32],
     pool: &[u8],
@@ -147,21 +151,13 @@ fn write_present(
 }
 
 // The records of the fields present, by number, to the output's front. Returns how many bytes they are.
-pub fn write_fields(
-    ws: &mut [u32],
-    pool: &[u8],
-    out: &mut [u8],
-    n: usize,
-    count: usize,
-    v: usize,
-) -> usize
-    requires { Fieldable n count v (tables_in n count v ws.old pool.now) (fields_of n ws.old) ws.old out.old }
-    ensures { Recorded n ws.old out.old
-        (records (presents (tables_in n count v ws.old pool.now) (fields_of n ws.old) 1 10)) ws.new out.new result }
+pub fn write_fields(ws: &mut [u32], pool: &[u8], out: &mut [u8], layout: Layout) -> usize
+    requires { Fieldable layout.n layout.count layout.v (tables_in layout.n layout.count layout.v ws.old pool.now) (fields_of layout.n ws.old) ws.old out.old }
+    ensures { Recorded layout.n ws.old out.old
+        (records (presents (tables_in layout.n layout.count layout.v ws.old pool.now) (fields_of layout.n ws.old) 1 10)) ws.new out.new result }
 {
-    let (front, rest) = ws.split_at_mut(9 * n);
-    let (scratch, fields) = rest.split_at_mut(3 * n);
-    let (places, stack) = scratch.split_at_mut(2 * v);
-    let layout = Layout { n, count, v };
+    let (front, rest) = ws.split_at_mut(9 * layout.n);
+    let (scratch, fields) = rest.split_at_mut(3 * layout.n);
+    let (places, stack) = scratch.split_at_mut(2 * layout.v);
     write_present(front, pool, layout, &fields[..11], places, stack, out)
 }

@@ -90,6 +90,7 @@ fn same_answer(
 }
 
 // Whether the reader answers the next text of the list as it says.
+// Kept: the buffers one by one, since the proof does not close over the fields of a lent struct.
 fn next_is_same<R: Read>(
     input: &mut R,
     text: &mut [u8],

@@ -95,6 +95,7 @@ pub fn is_valid_identifier(b: u8) -> bool
 }
 
 // The class of the byte at place i; at the end of the text and past it a class of its own.
+// Kept: a place, so that the end of the text has a class too.
 pub fn class_at(text: &[u8], i: usize) -> ByteClass
     ensures { number_of result ≡ class_at (drop i text.now) }
 {

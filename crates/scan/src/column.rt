@@ -2,6 +2,7 @@
 ghost use Rattle.std.specs.Prelude.{◌≡◌, ◌+◌, ◌≤◌, ◌<◌, length, take, drop, get_or};
 
 // The `len` bytes from `start` on: as many of them as there are, so it asks nothing.
+// Kept: start and length as they come, of which nothing is asked.
 pub fn part(bytes: &[u8], start: usize, len: usize) -> &[u8]
     ensures { result.now ≡ take len (drop start bytes.now) }
 {

@@ -1,4 +1,5 @@
-// Numbers as bytes, the lowest first, in any width up to eight.
+// Numbers as bytes, the lowest first.
+// Kept: bytes and a place in them, since each clause says the effect on all the bytes.
 ghost use Rattle.std.specs.Prelude.{◌≡◌, ◌+◌, ◌≤◌, length, take, drop};
 ghost use Rattle.rules.specs.Bytes.{to_little, from_little};
 ghost use Rattle.scan.specs.Stores.{puts};
@@ -6,6 +7,7 @@ ghost use Rattle.scan.specs.Stores.{puts};
 use crate::column::part;
 
 // The `width` lowest bytes of n go to `out` from place `at` on.
+// Kept by hand: its clause has any width, above eight too, and may not say less.
 pub fn put_little(out: &mut [u8], at: usize, width: usize, n: u64)
     requires { at + width ≤ length out.old }
     ensures { out.new ≡ puts out.old at (to_little width n) }

@@ -1,4 +1,5 @@
 // Stores into lent memory. Each says its whole effect: the values, the rest as it was, and so the length.
+// Kept: memory and a place in it, since each clause says the effect on the whole memory.
 ghost use Rattle.std.specs.Prelude.{◌≡◌, [], ◌∷◌, ◌+◌, ◌≤◌, length, take, drop, replicate};
 ghost use Rattle.rules.specs.Bytes.{overwrite};
 ghost use Rattle.scan.specs.Stores.{puts};
@@ -42,7 +43,7 @@ pub fn put4(ws: &mut [u32], at: usize, a: u32, b: u32, c: u32, d: u32)
     requires { at + 4 ≤ length ws.old }
     ensures { ws.new ≡ puts ws.old at (a ∷ b ∷ c ∷ d ∷ []) }
 {
-    // Kept: four stores. `copy_from_slice` of an array of the four is slower, as the array is made first.
+    // Kept: no plainer with `copy_from_slice`, for which an array of the four is made first; and that is slower.
     ws[at] = a;
     ws[at + 1] = b;
     ws[at + 2] = c;

@@ -7,7 +7,7 @@ ghost use Rattle.scan.specs.Stores.{puts};
 pub fn decimal_length(n: u64) -> usize
     ensures { result ≡ length (decimal n) }
 {
-    // Kept: `n.checked_ilog10()` takes longer, since a line's numbers have a digit or two.
+    // Kept: no plainer with `checked_ilog10`, which is none for 0 and needs a case for it; and that takes longer.
     let mut rest = n;
     let mut count = 1;
     while 10 <= rest {
@@ -18,13 +18,14 @@ pub fn decimal_length(n: u64) -> usize
 }
 
 // The digits go to `out` from place `at` on; the place after them. They are stored from the last to the first.
+// Kept: the clause says what becomes of the whole output, so it needs the place.
 pub fn put_decimal(out: &mut [u8], at: usize, n: u64) -> usize
     requires { at + length (decimal n) ≤ length out.old }
     ensures stored { out.new ≡ puts out.old at (decimal n) }
     ensures next { result ≡ at + length (decimal n) }
 {
     let end = at + decimal_length(n);
-    // Kept: with `for i in (at..end).rev()`, or the digits of the crate itoa, a listing takes longer than before.
+    // Kept: no plainer with `for i in (at..end).rev()`, which divides by hand all the same; and a listing takes longer, as with the crate itoa.
     let mut rest = n;
     let mut i = end;
     while 10 <= rest {

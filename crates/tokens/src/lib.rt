@@ -30,6 +30,7 @@ pub enum TokenKind {
 }
 
 // The entry `f` of token `j`.
+// Kept, here and below: over plain slices, of which the check knows that each entry fits 32 bits; of the fields of a `Table` it does not.
 fn entry_at(ws: &[u32], count: usize, j: usize, f: usize) -> u32
     requires { (4 * count ≤ length ws.now) × (f < 4) }
     ensures { result ≡ entry_at count ws.now j f }

@@ -59,6 +59,7 @@ impl<'a> Table<'a> {
     }
 
     // The number of the kind of token j.
+    // Kept: kinds as numbers, since lent memory may hold any; `TokenKind` has ten.
     #[tactic(auto, using(crate::proofs::TokenLaws::tables))]
     pub fn kind(&self, j: usize) -> u32
         ensures { result ≡ (token_at self.now j).kind }
@@ -113,6 +114,7 @@ impl<'a> Table<'a> {
     }
 
     // The text, of any kind, goes to `out` from place `to` on. Returns the place past it.
+    // Kept: the clause says what becomes of the whole output, so it needs the place.
     pub fn copy_text(&self, j: usize, out: &mut [u8], to: usize) -> usize
         requires { to + length (token_at self.now j).text ≤ length out.old }
         ensures past { result ≡ to + length (token_at self.now j).text }

@@ -109,6 +109,7 @@ fn more_bits(due: &[u8], bits: u32) -> u32
 }
 
 // The code point at place i; 0 past the end.
+// Kept: a place, so that past the end it is 0.
 pub fn code_point_at(text: &[u8], i: usize) -> u32
     ensures { result ≡ code_point (get_or text.now i 0) (drop (i + 1) text.now) }
 {

@@ -56,6 +56,7 @@ impl Operator {
     }
 
     // Its number, as records have it.
+    // Kept: `as` with its clause; a `From` would have the same body.
     pub fn number(self) -> u8
         ensures { result ≡ number_of self }
     {

@@ -5,8 +5,8 @@ ghost use Rattle.rules.specs.Bytes.{from_little};
 
 use crate::front::{Record, split_first_record};
 
-// Kept: kinds as numbers, since bytes may hold any, and the form compares them by order.
 // fields up to this kind are strings
+// Kept, as those below, as numbers: bytes may hold any, and the form compares them by order.
 const LAST_STRING: u16 = 7;
 
 // fields up to this kind are lists

@@ -1,3 +1,4 @@
+// The map of the workspace: its numbers as one value, definitions (specs/), and what is proved about them (proofs/).
 #![tactic(auto)]
 
-// The map of the workspace as definitions (specs/), and what is proved about them (proofs/). No code.
+pub mod layout;

@@ -8,17 +8,7 @@ ghost use Rattle.writer.specs.Tables.{Tables, tables_by, tables_in, start_of, en
 use scan::column::{column, entry};
 use std::marker::Model;
 use tokens::table::Table;
-
-// What lies where in the workspace: for a text of n bytes, with `count` tokens and v variables.
-#[derive(Clone, Copy)]
-pub struct Layout {
-    pub n: usize,
-    pub count: usize,
-    pub v: usize,
-    ghost small: { n ≤ 65535 },
-    ghost tokens: { count ≤ n },
-    ghost few: { 3 * v ≤ count + 1 },
-}
+use workspace::layout::Layout;
 
 #[derive(Drop)]
 pub struct Columns<'a> {
@@ -69,6 +59,7 @@ impl<'a> Columns<'a> {
     }
 
     // The text of token i goes to `out` from place `at` on. Returns the place past it.
+    // Kept: the clause says what becomes of the whole output, so it needs the place.
     pub fn copy_text(&self, i: usize, out: &mut [u8], at: usize) -> usize
         requires { at + length (token_at self.now.tokens i).text ≤ length out.old }
         ensures past { result ≡ at + length (token_at self.now.tokens i).text }

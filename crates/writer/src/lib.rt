@@ -19,6 +19,7 @@ use tokens::TokenKind;
 const PART: usize = 2147483648;
 
 // The place in the output where the value of the variable of rank j stands, if it is remembered: the entries hold one more than it, and 0 for none.
+// Kept: no heap, so a variable is known by its rank, and a token by its place, in lent columns.
 fn place(places: &[u32], j: usize) -> Option<usize>
     requires { 2 * j + 1 < length places.now }
     ensures { MatchOption result (place_in places.now j ≡ 0) (λ p. p + 1 ≡ place_in places.now j) }
@@ -28,6 +29,7 @@ fn place(places: &[u32], j: usize) -> Option<usize>
 }
 
 // The value of the variable of rank j stands at place p.
+// Kept: no heap, so a variable is known by its rank, and a token by its place, in lent columns.
 fn remember(places: &mut [u32], j: usize, p: usize)
     requires { (2 * j + 1 < length places.old) × (p < 9223372036854775807) }
     ensures { places.new ≡ puts places.old (2 * j) ((p + 1) % 2147483648 ∷ (p + 1) / 2147483648 ∷ []) }
@@ -57,6 +59,7 @@ fn value_of(columns: &Columns, j: usize) -> Frame
 }
 
 // The value of the variable of rank j goes to the output from place p on, if its place is remembered or it is empty. Returns the place past it.
+// Kept: as in `write_value`, of which this is a step.
 fn copy_value(
     columns: &Columns,
     places: &[u32],
@@ -79,6 +82,7 @@ fn copy_value(
 
 // The value of the tokens from `from` up to `to` goes to the output from place `at` on. Returns the place past it. A frame is left where it refers to a
 // variable whose value is not written yet, and comes back from the stack after that. The frame asked for is no variable's.
+// Kept: no plainer: the `Writer` of records has these as fields; a struct to lend them on would be made anew for each record.
 pub fn write_value(
     columns: &Columns,
     places: &mut [u32],

@@ -21,8 +21,8 @@ loop-f-preserved c =
       omega (
         arith,
         c.loop-f.invariant.0,
-        entry-bound _ _ _ (sum-small (decode S.count S.ws.now S.pool.now) (ranks_of S.n S.ws.now) (lengths_of S.n S.v S.ws.now)) _ _ _ _
-            (cell-small S.ws.now (6 * S.n) S.n _ (λ i. omega (arith, c.type_inv.ws i))) (sym e ∙ c.in_ok-need.was),
+        entry-bound _ _ _ (sum-small (decode S.layout.count S.ws.now S.pool.now) (ranks_of S.layout.n S.ws.now) (lengths_of S.layout.n S.layout.v S.ws.now)) _ _ _ _
+            (cell-small S.ws.now (6 * S.layout.n) S.layout.n _ (λ i. omega (arith, c.type_inv.ws i))) (sym e ∙ c.in_ok-need.was),
       ),
       sym (fields-more _ _ _ _ _ _ c.loop-f-test.true _ e _ c.in_ok-need.was) ∙ c.loop-f.invariant.1,
     )

@@ -8,7 +8,7 @@ write_present-requires c =
     let F = c.split_at_mut-front.ensures in
     let T = c.split_at_mut-scratch.ensures in
     let P = c.split_at_mut-places.ensures in
-    presentable S.n S.count S.v S.ws.now S.pool.now c.requires.room S.out.now c.requires _ _ _ _ _ _ F.front F.back T.front T.back P.front P.back
+    presentable S.layout.n S.layout.count S.layout.v S.ws.now S.pool.now c.requires.room S.out.now c.requires _ _ _ _ _ _ F.front F.back T.front T.back P.front P.back
 
 pub returns : goal.returns
 returns c =
@@ -17,5 +17,5 @@ returns c =
     let T = c.split_at_mut-scratch.ensures in
     let P = c.split_at_mut-places.ensures in
     let W = c.write_present in
-    presented S.n S.count S.v S.ws.now S.pool.now c.requires.room S.out.now c.requires _ _ _ _ _ _ F.front F.back T.front T.back P.front P.back
+    presented S.layout.n S.layout.count S.layout.v S.ws.now S.pool.now c.requires.room S.out.now c.requires _ _ _ _ _ _ F.front F.back T.front T.back P.front P.back
     W.new.places W.new.stack W.new.out W.result (omega arith) (omega arith) W.ensures.is_end W.ensures.bytes
