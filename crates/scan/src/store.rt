@@ -9,8 +9,9 @@ pub fn copy(from: &[u8], to: &mut [u8], at: usize)
     requires { at + length from.now ≤ length to.old }
     ensures { to.new ≡ puts to.old at from.now }
 {
-    let end = at + from.len();
-    to[at..end].copy_from_slice(from);
+    for (i, byte) in from.iter().enumerate() {
+        to[at + i] = *byte;
+    }
 }
 
 // The `len` bytes from place `from` on go to place `at`, which is past them.
@@ -18,7 +19,9 @@ pub fn copy_within(out: &mut [u8], from: usize, len: usize, at: usize)
     requires { (from + len ≤ at) × (at + len ≤ length out.old) }
     ensures { out.new ≡ puts out.old at (take len (drop from out.old)) }
 {
-    out.copy_within(from..from + len, at);
+    for i in 0..len {
+        out[at + i] = out[from + i];
+    }
 }
 
 // `count` entries become 0, from place `at` on.
