@@ -20,13 +20,23 @@ pub fn put_little(out: &mut [u8], at: usize, width: usize, n: u64)
     }
 }
 
+// The number that the bytes are, at most eight.
+pub fn little(bytes: &[u8]) -> u64
+    requires { length bytes.now ≤ 8 }
+    ensures { result ≡ from_little bytes.now }
+{
+    // Kept: no plainer with `from_le_bytes`, which wants eight bytes: an array is filled first, and that takes twice as long.
+    let mut n: u64 = 0;
+    for i in (0..bytes.len()).rev() {
+        n = bytes[i] as u64 + 256 * n;
+    }
+    n
+}
+
 // The number in the `width` bytes from place `at` on; past the end there are none.
 pub fn get_little(bytes: &[u8], at: usize, width: usize) -> u64
     requires { width ≤ 8 }
     ensures { result ≡ from_little (take width (drop at bytes.now)) }
 {
-    let given = part(bytes, at, width);
-    let mut number = [0; 8];
-    number[..given.len()].copy_from_slice(given);
-    u64::from_le_bytes(number)
+    little(part(bytes, at, width))
 }

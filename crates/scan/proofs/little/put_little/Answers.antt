@@ -1,7 +1,7 @@
 use Rattle.std.proofs.Common.{arith, ◌≡◌, ◌∙◌, ◌-◌, ◌+◌, length-set}
 use native.Mathlib.Nat.{sub-zero}
 use Rattle.scan.proofs.Lists.{length_part}
-use Rattle.scan.proofs.Littles.{length-little, little-more, little-none, puts_all}
+use Rattle.scan.proofs.Littles.{length-little, little-turn, little-none, puts_all}
 use Rattle.scan.proofs.Stores.{put_mid-puts}
 use Rattle.scan.proofs.little.put_little.Goals as goal
 
@@ -12,7 +12,7 @@ loop-byte-init c =
     rw (e, sub-zero) (record { long = l; left = puts_all _ _ (omega (arith, l, length-little c.args.width c.args.n)) })
 
 pub loop-byte-preserved : goal.loop-byte-preserved
-loop-byte-preserved c = let v = c.loop-byte.invariant in record { long = length-set _ _ _ ∙ v.long; left = little-more _ _ _ _ (omega (arith, v.long)) ∙ v.left }
+loop-byte-preserved c = let v = c.loop-byte.invariant in record { long = length-set _ _ _ ∙ v.long; left = little-turn _ _ _ _ (omega (arith, v.long)) ∙ v.left }
 
 pub returns : goal.returns
 returns c =
