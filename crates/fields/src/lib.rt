@@ -7,8 +7,9 @@ ghost use Rattle.rules.specs.Lines.{is_string};
 ghost use Rattle.fields.specs.Seen.{field_number, bit_at};
 ghost use Rattle.fields.specs.Numbers.{number_of, number_or_zero, key_of, has_key};
 
-// Kept: limits belong to a named type, as constants, a rule here. It has no values.
-pub enum Limit {}
+// Kept: limits belong to a named type, as constants, a rule here.
+#[derive(Clone, Copy)]
+pub struct Limit;
 
 impl Limit {
     // The most bytes that a text may have.
@@ -72,11 +73,18 @@ impl Field {
     }
 
     // Fields 1 to 7 are strings, 8 to 10 lists.
-    #[tactic(auto, unfolding(rules::specs::Lines::is_string))]
     pub fn is_string(self) -> bool
         ensures { result ≡ is_string (number_of self) }
     {
-        !matches!(self, Field::Cflags | Field::Libs | Field::LibsPrivate)
+        Field::is_string_number(self as u32)
+    }
+
+    // The same by number, which need be no field's.
+    #[tactic(auto, unfolding(rules::specs::Lines::is_string))]
+    pub fn is_string_number(f: u32) -> bool
+        ensures { result ≡ is_string f }
+    {
+        f <= Field::Conflicts as u32
     }
 }
 
