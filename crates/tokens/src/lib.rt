@@ -79,7 +79,7 @@ fn byte_at(ws: &[u32], count: usize, j: usize) -> u8
 }
 
 // The text of a Text or Variable token, a part of the pool; else nothing, and `byte_at` has the text's one byte.
-fn text_at<'a>(ws: &[u32], pool: &'a [u8], count: usize, j: usize) -> &'a [u8]
+pub fn text_at<'a>(ws: &[u32], pool: &'a [u8], count: usize, j: usize) -> &'a [u8]
     requires { 4 * count ≤ length ws.now }
     ensures { result.now ≡ pool_text (token_at (decode count ws.now pool.now) j) }
 {
