@@ -1,12 +1,12 @@
 -- Texts of Table 3-7's first row alone. Assumes nothing.
 use Prim.Native.Nat.{ℕ, suc, ◌<◌}
-use mathlib.Core.Path.{◌≡◌, refl, sym, ◌∙◌, ap}
-use mathlib.Core.Bool.{Bool, true}
+use mathlib.Core.Path.{◌≡◌, refl, ◌∙◌, ap}
+use mathlib.Core.Bool.{true}
 use mathlib.Core.List.{List, [], ◌∷◌}
 use mathlib.Core.Option.{Option}
 use native.Mathlib.Omega.{arith}
 use lib.ListN.{get_or, take, drop}
-use Rattle.rules.specs.Utf8.{Range, ◌to◌, rows, follows, well_formed}
+use Rattle.rules.specs.Utf8.{Range, ◌to◌, rows, follows}
 use Rattle.utf8.specs.Dues.{after}
 use Rattle.utf8.proofs.Rows.{row, goes_on, after-byte}
 
@@ -19,8 +19,3 @@ pub ascii : (bs : List ℕ) → ((i : ℕ) → get_or bs i 0 < 128) → follows 
 unfolding follows
 ascii [] h = refl
 ascii (b ∷ bs) h = first b bs (h 0) ∙ ascii bs (λ i. h (suc i))
-
--- a test that tells such a text, for an attribute
-pub ascii_text : (text : List ℕ) (told : Bool) → told ≡ true → ((i : ℕ) → get_or text i 0 < 128) → told ≡ well_formed text
-unfolding well_formed
-ascii_text text told e h = e ∙ sym (ascii text h)

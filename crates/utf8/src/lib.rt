@@ -77,7 +77,6 @@ fn goes_by_rows(text: &[u8]) -> bool
 }
 
 // Whether the text is well-formed UTF-8. ASCII is the table's first row alone, and is tested by blocks.
-#[tactic(auto, using(crate::proofs::Ascii::ascii_text))]
 pub fn is_well_formed(text: &[u8]) -> bool
     ensures { result ≡ well_formed text.now }
 {
