@@ -16,9 +16,20 @@ use Rattle.scan.specs.Classes.{class_number}
 use Rattle.scan.proofs.Classes.{is-other}
 use Rattle.scan.proofs.Lists.{cell_in, length_part}
 use Rattle.scan.proofs.Table.{up_to, up_to-at, same, same-eq}
+use Rattle.std.specs.List.{list_any}
+use Rattle.std.proofs.lemmas.List.Folds.{list_any_at}
+use Rattle.rules.proofs.BytesLaws.{false-true}
 use Rattle.lexer.specs.Marks.{text_stop, free, OnRun}
 use Rattle.lexer.specs.Pieces.{is_plain}
 use Rattle.lexer.proofs.Lexemes.{on-more}
+
+-- where no byte passes a test, none at any place does
+pub none_in : (p : ℕ → Bool) (bs : List ℕ) → list_any p bs ≡ false → (k : ℕ) → k < length bs → p (get_or bs k 0) ≡ false
+none_in p bs e k l = go (p (get_or bs k 0)) refl
+  where
+    go : (t : Bool) → p (get_or bs k 0) ≡ t → p (get_or bs k 0) ≡ false
+    go true q = absurd (false-true e (list_any_at p bs k 0 l q))
+    go false q = q
 
 -- past bytes that stop nothing, and past a block of them
 module _ (stop : ℕ → Bool) (t : List ℕ) (i : ℕ) where
@@ -28,13 +39,12 @@ module _ (stop : ℕ → Bool) (t : List ℕ) (i : ℕ) where
       let e : j + suc n ≡ j + n + 1 = omega arith in
       rw e (on-more (free stop) t i (j + n) (on_all n j (λ k l. f k (omega arith)) (omega arith) o) (omega arith) (ap not (f n (omega arith))))
 
-  pub on_block : (j : ℕ) → j + 16 ≤ length t → ((k : ℕ) → k < length (take (j + 16 - j) (drop j t)) → stop (get_or (take (j + 16 - j) (drop j t)) k 0) ≡ false)
-      → OnRun (free stop) t i j → OnRun (free stop) t i (j + 16)
+  pub on_block : (j : ℕ) → j + 16 ≤ length t → list_any stop (take (j + 16 - j) (drop j t)) ≡ false → OnRun (free stop) t i j → OnRun (free stop) t i (j + 16)
   on_block j h f o =
       let e : j + 16 - j ≡ 16 = omega arith in
       let l : length (take 16 (drop j t)) ≡ 16 = length_part t j 16 h in
-      let g : (k : ℕ) → k < length (take 16 (drop j t)) → stop (get_or (take 16 (drop j t)) k 0) ≡ false = rw e at f in
-      on_all 16 j (λ k m. rw (cell_in t j 16 k m) (g k (omega arith))) h o
+      let g : list_any stop (take 16 (drop j t)) ≡ false = rw e at f in
+      on_all 16 j (λ k m. rw (cell_in t j 16 k m) (none_in stop (take 16 (drop j t)) g k (omega arith))) h o
 
 -- a byte that stops no text: one computed test of all 256
 clear : ℕ → Bool

@@ -1,6 +1,7 @@
 // Runs of bytes. Short ones are passed byte by byte. Long ones are passed a block at a time: all bytes of a block are looked at, with no early end, which
 // the compiler makes a few operations on 16 bytes at once. So a test of a byte has `|` and not `||`, of which the compiler makes branches.
-ghost use Rattle.std.specs.Prelude.{◌≡◌, ◌+◌, ◌≤◌, ◌<◌, ℕ, Bool, false, length, drop, get_or};
+ghost use Rattle.std.specs.Prelude.{◌≡◌, ◌+◌, ◌≤◌, ℕ, Bool, length, drop};
+ghost use Rattle.std.specs.List.{list_any};
 ghost use Rattle.rules.specs.Bytes.{run};
 ghost use Rattle.lexer.specs.Marks.{free};
 
@@ -21,10 +22,10 @@ pub fn run_end<F: Fn(u8) -> bool>(passes: F, text: &[u8], i: usize) -> usize
     text.len()
 }
 
-// False only where no byte is one that is looked for: all that its callers ask. A true that is wrong would cost them time alone.
+// Whether any byte is one that is looked for, which `stops` tells.
 pub fn any_in<F: Fn(u8) -> bool>(stops: &F, block: &[u8]) -> bool
     requires { F.IsAlwaysCallable stops.now }
-    ensures { (p : ℕ → Bool) → ((b : ℕ) (r : Bool) → F.post stops.now b r → r ≡ p b) → result ≡ false → (k : ℕ) → k < length block.now → p (get_or block.now k 0) ≡ false }
+    ensures { (p : ℕ → Bool) → ((b : ℕ) (r : Bool) → F.post stops.now b r → r ≡ p b) → result ≡ list_any p block.now }
 {
     let mut seen = false;
     for b in block {

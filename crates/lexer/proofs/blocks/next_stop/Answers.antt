@@ -5,7 +5,7 @@ use Rattle.lexer.proofs.Marks.{on_block}
 use Rattle.lexer.proofs.blocks.next_stop.Goals as goal
 
 pub loop-j-preserved : goal.loop-j-preserved
-loop-j-preserved g c = let v = c.loop-j.invariant in (v.0, omega arith, λ p q. on_block p _ _ c.loop-j.j (omega arith) (c.any_in.ensures p q c.if-any_in.false) (v.2 p q))
+loop-j-preserved g c = let v = c.loop-j.invariant in (v.0, omega arith, λ p q. on_block p _ _ c.loop-j.j (omega arith) (sym (c.any_in.ensures p q) ∙ c.if-any_in.false) (v.2 p q))
 
 pub loop-k-init : goal.loop-k-init
 loop-k-init g c = let v = c.loop-j.invariant in (v.0, v.2)
