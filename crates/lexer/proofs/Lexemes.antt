@@ -11,8 +11,8 @@ use lib.Seq.{drop-drop, length-take-le}
 use lib.Dec.{eqb}
 use borrow.Author.Tests.{eq-eqb, ne_eqb, lt-ltb, le-ltb}
 use Rattle.rules.specs.Bytes.{pick, run}
-use Rattle.rules.specs.Lexing.{Class, chars, mark, bad, is_identifier, is_line_end, class, second, comment, after_backslash, after_name, after_brace, after_dollar, lexeme}
-use Rattle.rules.specs.Numbers.{missing_close_variable, invalid_variable_char}
+use Rattle.rules.specs.Lexing.{Class, chars, mark, is_identifier, is_line_end, class, second, comment, after_backslash, after_name, after_brace, after_dollar, lexeme}
+use Rattle.rules.specs.Numbers.{invalid_variable_char}
 use Rattle.rules.specs.Utf8.{code_point}
 use Rattle.rules.proofs.LexingLaws.{second-le, run-le}
 use Rattle.scan.specs.Classes.{class_number, class_at, number_of}
@@ -21,7 +21,10 @@ use Rattle.scan.specs.declared.class.ByteClass.TheVariants.{Other, Identifier, B
 use Rattle.scan.proofs.Classes.{class-is, test, test-true, test-false, class-in, past_end, not-past}
 use Rattle.scan.proofs.Lists.{rest_at}
 use Rattle.lexer.specs.Marks.{OnRun}
-use Rattle.lexer.specs.Pieces.{lexeme_at, shown, Shows, is_plain, Reads}
+use Rattle.lexer.specs.Lexes.{error_of}
+use Rattle.lexer.specs.Pieces.{lexeme_at, shown, Shows, Stands, Refuses, is_plain, Reads}
+use Rattle.lexer.specs.declared.LexError.{LexError}
+use Rattle.lexer.specs.declared.LexError.TheVariants.{MissingCloseVariable, InvalidVariableChar}
 
 -- how far a test holds, from place j on
 module _ (f : ℕ → Bool) (text : List ℕ) (j : ℕ) where
@@ -182,13 +185,27 @@ module _ (text : List ℕ) (i end c : ℕ) (here : i + 2 ≤ length text) (d : e
         part = omega arith;
       }
 
-  pub reference-open : c ≡ 15 → after_brace (drop (i + 2) text) ≡ bad missing_close_variable
+  pub reference-open : c ≡ 15 → Refuses text i (after_brace (drop (i + 2) text)) (record { error = MissingCloseVariable; at = end })
   unfolding after_name
-  reference-open q = let k : length text ≤ end = at-end text end c e q in rw (brace-by, drop_of_length-le text k)
+  reference-open q =
+      let k : length text ≤ end = at-end text end c e q in
+      record { is_bad = rw (brace-by, drop_of_length-le text k); on = omega arith; inside = name-inside; stands = omega (arith, name-inside) }
 
-  pub reference-bad : (p : ℕ) → (c ≡ 13 → ⊥) → (c ≡ 15 → ⊥) → p ≡ code_point (get_or text end 0) (drop (end + 1) text) → after_brace (drop (i + 2) text) ≡ bad (invalid_variable_char p)
+  pub reference-bad : (x : LexError) → (c ≡ 13 → ⊥) → (c ≡ 15 → ⊥) → error_of x ≡ invalid_variable_char (code_point (get_or text end 0) (drop (end + 1) text))
+      → Refuses text i (after_brace (drop (i + 2) text)) (record { error = x; at = end })
   unfolding after_name pick class_number
-  reference-bad p f g d = let h : end < length text = within text end c e g in rw (d, brace-by, rest_at text end h, no-at text end c e Class.close_brace h f)
+  reference-bad x f g w =
+      let h : end < length text = within text end c e g in
+      record {
+        is_bad = rw (w, brace-by, rest_at text end h, no-at text end c e Class.close_brace h f);
+        on = omega arith;
+        inside = name-inside;
+        stands = go x w h;
+      }
+    where
+      go : (y : LexError) → error_of y ≡ invalid_variable_char (code_point (get_or text end 0) (drop (end + 1) text)) → end < length text → Stands text end y
+      go MissingCloseVariable q h = let z : ◌≡◌ {A = ℕ} 0 1 = cc in absurd (omega arith)
+      go (InvalidVariableChar p) q h = let z : p ≡ code_point (get_or text end 0) (drop (end + 1) text) = cc in (h, z)
 
 -- `$` at place i, by the class c of the next byte
 module _ (text : List ℕ) (i c : ℕ) (here : i < length text) (e : c ≡ class_at (drop (i + 1) text)) where

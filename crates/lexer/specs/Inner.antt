@@ -5,8 +5,11 @@ use Rattle.rules.specs.Tokens.{Token, token, text_kind, variable_kind}
 use Rattle.rules.specs.Numbers.{LexError, ok, refused, lex_error}
 use Rattle.rules.specs.Lexing.{bad, tokens}
 use Rattle.lexer.specs.Lexes.{Room, error_of}
-use Rattle.lexer.specs.Pieces.{lexeme_at}
+use Rattle.scan.specs.Stores.{puts}
+use Rattle.lexer.specs.Pieces.{lexeme_at, kind_of, Reads, Refuses}
 use Rattle.lexer.specs.declared.LexRefusal.{LexRefusal}
+use Rattle.lexer.specs.declared.lexeme.Piece.{Piece}
+use Rattle.lexer.specs.declared.lexeme.BadReference.{BadReference}
 
 -- the text isn't refused
 pub record Accepted (text : List ℕ) : Type 0 where
@@ -26,6 +29,11 @@ kept text kind from len = pick (eqb kind text_kind) (take len (drop from text)) 
 pub record KeepRoom (text pool : List ℕ) (i used : ℕ) : Type 0 where
   pub here : i ≤ length text
   pub fits : used + (length text - i) ≤ length pool
+
+-- what keeping a piece answers: what is read, and its bytes in the pool if it is Text; or a reference that can't be lexed, and the pool as it was
+abbrev pub Keeps : List ℕ → ℕ → ℕ → List ℕ → List ℕ → Result Piece BadReference → Type 0
+Keeps text i used pool pool' (Ok p) = Reads text i (kind_of p.kind) p.from p.len p.next × (pool' ≡ puts pool used (kept text (kind_of p.kind) p.from p.len))
+Keeps text i used pool pool' (Err r) = Refuses text i (lexeme_at text i) r × (pool' ≡ pool)
 
 -- at place i stands no reference that can't be lexed
 abbrev pub Sound : List ℕ → ℕ → Type 0

@@ -3,11 +3,14 @@ use Rattle.std.specs.Prelude.{ℕ, ◌+◌, ◌-◌, ◌≤◌, ◌<◌, ◌≡�
 use Rattle.rules.specs.Bytes.{pick, run}
 use Rattle.rules.specs.Tokens.{text_kind, variable_kind, blank_kind, equals_kind, colon_kind, single_quote_kind, double_quote_kind, backslash_kind, new_line_kind}
 use Rattle.rules.specs.Lexing.{Lexeme, chars, reference, mark, bad, class, lexeme}
+use Rattle.rules.specs.Utf8.{code_point}
 use Rattle.scan.specs.Classes.{class_number}
 use Rattle.tokens.specs.declared.TokenKind.{TokenKind}
 use Rattle.tokens.specs.declared.TokenKind.TheVariants.{Dropped, Text, Variable, Blank, Equals, Colon, SingleQuote, DoubleQuote, Backslash, NewLine}
 use Rattle.lexer.specs.declared.LexError.{LexError}
+use Rattle.lexer.specs.declared.LexError.TheVariants.{MissingCloseVariable, InvalidVariableChar}
 use Rattle.lexer.specs.declared.lexeme.Piece.{Piece}
+use Rattle.lexer.specs.declared.lexeme.BadReference.{BadReference}
 use Rattle.lexer.specs.Lexes.{error_of}
 
 -- the lexeme at place i of the text
@@ -42,10 +45,22 @@ pub record Shows (text : List ℕ) (i : ℕ) (x : Lexeme) (kind from len next : 
   pub after : i ≤ from
   pub part : from + len ≤ next
 
--- what reading the lexeme x answers: the piece that shows it, or the error of a reference
-abbrev pub Answers : List ℕ → ℕ → Lexeme → Result Piece LexError → Type 0
+-- the error stands at place p: there a reference that isn't closed comes to the end of the text, or there is the bad character
+abbrev pub Stands : List ℕ → ℕ → LexError → Type 0
+Stands text p MissingCloseVariable = p ≡ length text
+Stands text p (InvalidVariableChar c) = (p < length text) × (c ≡ code_point (get_or text p 0) (drop (p + 1) text))
+
+-- the lexeme x is a reference that can't be lexed, with this error, at this place of the text
+pub record Refuses (text : List ℕ) (i : ℕ) (x : Lexeme) (r : BadReference) : Type 0 where
+  pub is_bad : x ≡ bad (error_of r.error)
+  pub on : i < r.at
+  pub inside : r.at ≤ length text
+  pub stands : Stands text r.at r.error
+
+-- what reading the lexeme x answers: the piece that shows it, or a reference that can't be lexed
+abbrev pub Answers : List ℕ → ℕ → Lexeme → Result Piece BadReference → Type 0
 Answers text i x (Ok p) = Shows text i x (kind_of p.kind) p.from p.len p.next
-Answers text i x (Err e) = x ≡ bad (error_of e)
+Answers text i x (Err r) = Refuses text i x r
 
 -- identifier and other bytes, which are text by themselves: their classes are below those of tokens
 unfoldable pub is_plain : ℕ → Bool

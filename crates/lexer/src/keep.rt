@@ -3,10 +3,10 @@
 ghost use Rattle.std.specs.Prelude.{◌≡◌, ◌+◌, ◌≤◌, ◌<◌, length, take, drop};
 ghost use Rattle.rules.specs.Bytes.{run};
 ghost use Rattle.scan.specs.Stores.{puts};
-ghost use Rattle.lexer.specs.Pieces.{is_plain, kind_of, Reads};
-ghost use Rattle.lexer.specs.Inner.{KeepRoom, Sound, kept};
+ghost use Rattle.lexer.specs.Pieces.{is_plain};
+ghost use Rattle.lexer.specs.Inner.{KeepRoom, Keeps};
 
-use crate::lexeme::{Piece, is_plain, lexeme_at, long_plain_end};
+use crate::lexeme::{BadReference, Piece, is_plain, lexeme_at, long_plain_end};
 use scan::store::copy;
 use tokens::TokenKind;
 
@@ -50,23 +50,25 @@ fn keep_plain(text: &[u8], i: usize, pool: &mut [u8], used: usize) -> usize
 }
 
 // All the bytes from place i on that are text by themselves, or else one lexeme. What is Text goes to the pool from place `used` on.
-pub fn keep_piece(text: &[u8], i: usize, pool: &mut [u8], used: usize) -> Piece
-    requires { (i < length text.now) × KeepRoom text.now pool.old i used × Sound text.now i }
-    ensures { Reads text.now i (kind_of result.kind) result.from result.len result.next
-        × (pool.new ≡ puts pool.old used (kept text.now (kind_of result.kind) result.from result.len)) }
+// Where a reference there can't be lexed, the pool stays as it was.
+pub fn keep_piece(
+    text: &[u8],
+    i: usize,
+    pool: &mut [u8],
+    used: usize,
+) -> Result<Piece, BadReference>
+    requires { (i < length text.now) × KeepRoom text.now pool.old i used }
+    ensures { Keeps text.now i used pool.old pool.new result }
 {
     let b = text[i];
     if is_plain(b) {
         pool[used] = b;
         let end = keep_plain(text, i + 1, pool, used + 1);
-        return Piece::new(TokenKind::Text, i, end - i, end);
+        return Ok(Piece::new(TokenKind::Text, i, end - i, end));
     }
-    // the first pass found no reference that can't be lexed
-    let Ok(piece) = lexeme_at(text, i) else {
-        unreachable!();
-    };
+    let piece = lexeme_at(text, i)?;
     if let TokenKind::Text = piece.kind {
         keep_text(text, piece.from, piece.len, pool, used);
     }
-    piece
+    Ok(piece)
 }

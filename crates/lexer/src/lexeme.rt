@@ -37,6 +37,13 @@ impl Piece {
     }
 }
 
+// A reference that can't be lexed: why, and where, which is at the bad character, or at the end of the text.
+#[derive(Clone, Copy, Debug, PartialEq, Eq)]
+pub struct BadReference {
+    pub error: LexError,
+    pub at: usize,
+}
+
 // Whether the byte is text by itself.
 pub fn is_plain(b: u8) -> bool
     ensures { result ≡ is_plain b }
@@ -96,7 +103,7 @@ fn bad_character(text: &[u8], i: usize) -> LexError
 }
 
 // `${` at place i opens a reference, up to `}`.
-fn reference_at(text: &[u8], i: usize) -> Result<Piece, LexError>
+fn reference_at(text: &[u8], i: usize) -> Result<Piece, BadReference>
     requires { i + 2 ≤ length text.now }
     ensures { Answers text.now i (after_brace (drop (i + 2) text.now)) result }
 {
@@ -104,13 +111,19 @@ fn reference_at(text: &[u8], i: usize) -> Result<Piece, LexError>
     let end = name_end(text, name);
     match class_at(text, end) {
         ByteClass::CloseBrace => Ok(Piece::new(TokenKind::Variable, name, end - name, end + 1)),
-        ByteClass::Past => Err(LexError::MissingCloseVariable),
-        _ => Err(bad_character(text, end)),
+        ByteClass::Past => Err(BadReference {
+            error: LexError::MissingCloseVariable,
+            at: end,
+        }),
+        _ => Err(BadReference {
+            error: bad_character(text, end),
+            at: end,
+        }),
     }
 }
 
 // `$$` is text `$`. `$` before anything else but `{` puts both into Text. `$` at the end is text `$`.
-pub fn dollar_at(text: &[u8], i: usize) -> Result<Piece, LexError>
+pub fn dollar_at(text: &[u8], i: usize) -> Result<Piece, BadReference>
     requires { i < length text.now }
     ensures { Answers text.now i (after_dollar (get_or text.now i 0) (drop (i + 1) text.now)) result }
 {
@@ -130,8 +143,8 @@ fn byte_token(kind: TokenKind, i: usize) -> Piece
     Piece::new(kind, i, 1, i + 1)
 }
 
-// The lexeme at place i, by the class of its first byte; the error of a reference that can't be lexed.
-pub fn lexeme_at(text: &[u8], i: usize) -> Result<Piece, LexError>
+// The lexeme at place i, by the class of its first byte; where it is a reference that can't be lexed, why and where.
+pub fn lexeme_at(text: &[u8], i: usize) -> Result<Piece, BadReference>
     requires { i < length text.now }
     ensures { Answers text.now i (lexeme_at text.now i) result }
 {

@@ -3,7 +3,7 @@
 #![tactic(auto)]
 
 pub mod blocks;
-mod keep;
+pub mod keep;
 pub mod lexeme;
 
 ghost use Rattle.std.specs.Prelude.{◌≡◌, ◌+◌, ◌*◌, ◌≤◌, ◌<◌, length, drop, eqb};
@@ -18,7 +18,7 @@ ghost use Rattle.lexer.specs.Inner.{Judges, Fillable, flushed, flushed_count, Fl
 use answers::Refusal;
 use blocks::{any_in, next_stop};
 use keep::{keep_piece, keep_text};
-use lexeme::{Piece, backslash_at, comment_end, dollar_at};
+use lexeme::{BadReference, Piece, backslash_at, comment_end, dollar_at};
 use scan::class::{ByteClass, class_of};
 use scan::store::put4;
 use tokens::TokenKind;
@@ -68,7 +68,7 @@ fn find_refusal(text: &[u8]) -> Result<(), LexRefusal>
         i = match class_of(text[i]) {
             ByteClass::Dollar => match dollar_at(text, i) {
                 Ok(piece) => piece.next,
-                Err(error) => return Err(LexRefusal { error, at: i }),
+                Err(BadReference { error, .. }) => return Err(LexRefusal { error, at: i }),
             },
             ByteClass::Hash => comment_end(text, i + 1),
             ByteClass::Backslash => backslash_at(text, i).next,
@@ -189,7 +189,10 @@ fn fill(text: &[u8], ws: &mut [u32], pool: &mut [u8]) -> Filled
     let mut gathered = Gathered::none(0);
     // Kept: a `while`, as a piece has any number of bytes.
     while i < text.len() {
-        let piece = keep_piece(text, i, pool, gathered.end);
+        // the first pass found no reference that can't be lexed
+        let Ok(piece) = keep_piece(text, i, pool, gathered.end) else {
+            unreachable!();
+        };
         match piece.kind {
             TokenKind::Text => gathered = gathered.with(i, piece.len),
             _ => {

@@ -8,7 +8,7 @@ pub loop-i-init : goal.loop-i-init
 loop-i-init c = search fated-start
 
 pub returns-in-Err : goal.returns-in-Err
-returns-in-Err c = dollar-bad _ _ c.loop-i.invariant 10 c.loop-i-test.true c.in-Dollar.ensures _ refl c.in-Err.ensures
+returns-in-Err c = dollar-bad _ _ c.loop-i.invariant 10 c.loop-i-test.true c.in-Dollar.ensures _ refl c.in-Err.ensures.is_bad
 
 pub loop-i-preserved-in-Ok : goal.loop-i-preserved-in-Ok
 loop-i-preserved-in-Ok c = fated-dollar _ _ c.loop-i.invariant 10 c.loop-i-test.true c.in-Dollar.ensures _ _ _ _ refl c.in-Ok.ensures

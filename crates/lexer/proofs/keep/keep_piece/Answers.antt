@@ -17,7 +17,7 @@ returns-then-is_plain c =
     rw c.new.ensures (reads-run _ _ _ c.requires.0 t k.0, kept_run _ _ _ _ c.requires.0 c.requires.1 _ _ t k.0 k.1)
 
 pub returns-in-Text : goal.returns-in-Text
-returns-in-Text c = (reads-one _ _ _ _ _ _ c.in-Ok.ensures, kept-text _ _ _ _ _ _ _ (ap kind_of c.in-Text.is) c.keep_text.ensures)
+returns-in-Text c = (reads-one _ _ _ _ _ _ c.in_ok-piece.ensures, kept-text _ _ _ _ _ _ _ (ap kind_of c.in-Text.is) c.keep_text.ensures)
 
-pub returns-in_default-kind : goal.returns-in_default-kind
-returns-in_default-kind c = (reads-one _ _ _ _ _ _ c.in-Ok.ensures, kept-none _ _ _ _ _ _ (λ e. c.in_default-kind.not-Text (kind_named _ Text e)))
+pub returns-in_default : goal.returns-in_default
+returns-in_default c = (reads-one _ _ _ _ _ _ c.in_ok-piece.ensures, kept-none _ _ _ _ _ _ (λ e. c.in_default.not-Text (kind_named _ Text e)))

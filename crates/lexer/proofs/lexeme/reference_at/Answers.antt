@@ -16,5 +16,4 @@ returns-in-Past c = reference-open _ _ _ 15 c.requires c.name_end-end.ensures c.
 
 pub returns-in_default : goal.returns-in_default
 returns-in_default c =
-    let r = reference-bad _ _ _ _ c.requires c.name_end-end.ensures c.class_at.ensures _ (λ e. c.in_default.not-CloseBrace (named _ CloseBrace e)) (λ e. c.in_default.not-Past (named _ Past e)) refl in
-    rw c.bad_character.ensures r
+    reference-bad _ _ _ _ c.requires c.name_end-end.ensures c.class_at.ensures _ (λ e. c.in_default.not-CloseBrace (named _ CloseBrace e)) (λ e. c.in_default.not-Past (named _ Past e)) c.bad_character.ensures
