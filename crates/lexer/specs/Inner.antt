@@ -8,6 +8,7 @@ use Rattle.lexer.specs.Lexes.{Room, error_of}
 use Rattle.scan.specs.Stores.{puts}
 use Rattle.lexer.specs.Pieces.{lexeme_at, kind_of, Reads, Refuses}
 use Rattle.lexer.specs.declared.LexRefusal.{LexRefusal}
+use Rattle.tokens.specs.declared.TokenKind.{TokenKind}
 use Rattle.lexer.specs.declared.lexeme.Piece.{Piece}
 use Rattle.lexer.specs.declared.lexeme.BadReference.{BadReference}
 
@@ -31,7 +32,7 @@ pub record KeepRoom (text pool : List ℕ) (i used : ℕ) : Type 0 where
   pub fits : used + (length text - i) ≤ length pool
 
 -- what keeping a piece answers: what is read, and its bytes in the pool if it is Text; or a reference that can't be lexed, and the pool as it was
-abbrev pub Keeps : List ℕ → ℕ → ℕ → List ℕ → List ℕ → Result Piece BadReference → Type 0
+abbrev pub Keeps : List ℕ → ℕ → ℕ → List ℕ → List ℕ → Result (Piece TokenKind) BadReference → Type 0
 Keeps text i used pool pool' (Ok p) = Reads text i (kind_of p.kind) p.from p.len p.next × (pool' ≡ puts pool used (kept text (kind_of p.kind) p.from p.len))
 Keeps text i used pool pool' (Err r) = Refuses text i (lexeme_at text i) r × (pool' ≡ pool)
 

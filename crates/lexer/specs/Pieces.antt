@@ -58,7 +58,7 @@ pub record Refuses (text : List ℕ) (i : ℕ) (x : Lexeme) (r : BadReference) :
   pub stands : Stands text r.at r.error
 
 -- what reading the lexeme x answers: the piece that shows it, or a reference that can't be lexed
-abbrev pub Answers : List ℕ → ℕ → Lexeme → Result Piece BadReference → Type 0
+abbrev pub Answers : List ℕ → ℕ → Lexeme → Result (Piece TokenKind) BadReference → Type 0
 Answers text i x (Ok p) = Shows text i x (kind_of p.kind) p.from p.len p.next
 Answers text i x (Err r) = Refuses text i x r
 

@@ -56,7 +56,7 @@ pub fn keep_piece(
     i: usize,
     pool: &mut [u8],
     used: usize,
-) -> Result<Piece, BadReference>
+) -> Result<Piece<TokenKind>, BadReference>
     requires { (i < length text.now) × KeepRoom text.now pool.old i used }
     ensures { Keeps text.now i used pool.old pool.new result }
 {

@@ -17,15 +17,15 @@ use utf8::code_point_at;
 
 // A piece of the text: its kind, its own text, which is the `len` bytes from `from` on, and where the next one starts.
 #[derive(Clone, Copy)]
-pub struct Piece {
-    pub kind: TokenKind,
+pub struct Piece<K> {
+    pub kind: K,
     pub from: usize,
     pub len: usize,
     pub next: usize,
 }
 
-impl Piece {
-    pub fn new(kind: TokenKind, from: usize, len: usize, next: usize) -> Piece
+impl<K> Piece<K> {
+    pub fn new(kind: K, from: usize, len: usize, next: usize) -> Piece<K>
         ensures { result ≡ record { kind = kind; from = from; len = len; next = next } }
     {
         Piece {
@@ -79,7 +79,7 @@ fn maybe_consume_second_newline(text: &[u8], i: usize) -> usize
 }
 
 // Backslash before `#` is text `#`. Before a line end all vanish and Text goes on. Else it is a token.
-pub fn backslash_at(text: &[u8], i: usize) -> Piece
+pub fn backslash_at(text: &[u8], i: usize) -> Piece<TokenKind>
     requires { i < length text.now }
     ensures { Shows text.now i (after_backslash (drop (i + 1) text.now)) (kind_of result.kind) result.from result.len result.next }
 {
@@ -103,7 +103,7 @@ fn bad_character(text: &[u8], i: usize) -> LexError
 }
 
 // `${` at place i opens a reference, up to `}`.
-fn reference_at(text: &[u8], i: usize) -> Result<Piece, BadReference>
+fn reference_at(text: &[u8], i: usize) -> Result<Piece<TokenKind>, BadReference>
     requires { i + 2 ≤ length text.now }
     ensures { Answers text.now i (after_brace (drop (i + 2) text.now)) result }
 {
@@ -123,7 +123,7 @@ fn reference_at(text: &[u8], i: usize) -> Result<Piece, BadReference>
 }
 
 // `$$` is text `$`. `$` before anything else but `{` puts both into Text. `$` at the end is text `$`.
-pub fn dollar_at(text: &[u8], i: usize) -> Result<Piece, BadReference>
+pub fn dollar_at(text: &[u8], i: usize) -> Result<Piece<TokenKind>, BadReference>
     requires { i < length text.now }
     ensures { Answers text.now i (after_dollar (get_or text.now i 0) (drop (i + 1) text.now)) result }
 {
@@ -136,7 +136,7 @@ pub fn dollar_at(text: &[u8], i: usize) -> Result<Piece, BadReference>
 }
 
 // A token that is the byte at place i by itself.
-fn byte_token(kind: TokenKind, i: usize) -> Piece
+fn byte_token(kind: TokenKind, i: usize) -> Piece<TokenKind>
     requires { i < 18446744073709551615 }
     ensures { result ≡ record { kind = kind; from = i; len = 1; next = i + 1 } }
 {
@@ -144,7 +144,7 @@ fn byte_token(kind: TokenKind, i: usize) -> Piece
 }
 
 // The lexeme at place i, by the class of its first byte; where it is a reference that can't be lexed, why and where.
-pub fn lexeme_at(text: &[u8], i: usize) -> Result<Piece, BadReference>
+pub fn lexeme_at(text: &[u8], i: usize) -> Result<Piece<TokenKind>, BadReference>
     requires { i < length text.now }
     ensures { Answers text.now i (lexeme_at text.now i) result }
 {

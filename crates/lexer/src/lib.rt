@@ -149,7 +149,7 @@ fn put_token(
     ws: &mut [u32],
     pool: &mut [u8],
     i: usize,
-    piece: Piece,
+    piece: Piece<TokenKind>,
     count: usize,
     used: usize,
 ) -> usize
