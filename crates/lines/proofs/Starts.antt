@@ -6,7 +6,8 @@ use mathlib.Core.List.{List, [], ◌∷◌, ◌++◌, append-nil}
 use native.Mathlib.Numerals.{add-one}
 use native.Mathlib.Nat.{add-zero}
 use native.Mathlib.Omega.{arith}
-use lib.ListN.{length, take, drop, drop_of_length-le, take-append-drop}
+use native.Mathlib.Decide.{dec_lt}
+use lib.ListN.{length, take, drop, drop_of_length-le, take-append-drop, get_or-eq_default}
 use lib.Seq.{drop-append-le, drop-cons, length-take-le, take-suc, get_or-drop, get_or-take}
 use borrow.Author.Tests.{lt-ltb, le-ltb, eq-eqb, ne_eqb}
 use Rattle.std.specs.Prelude.{Option, Some, None, MatchOption, unwrap_or}
@@ -19,7 +20,7 @@ use Rattle.tokens.specs.Entries.{token_at}
 use Rattle.workspace.specs.Map.{between}
 use Rattle.lines.specs.declared.line.LineStart.{LineStart}
 use Rattle.lines.specs.declared.line.LineStart.TheVariants.{Empty, WrongStart, WrongAfter, Ended, Assigns, Gives}
-use Rattle.lines.specs.Line.{Skips, EndsLine, Stands, ending_at, line_at, Starts, EndsValue}
+use Rattle.lines.specs.Line.{SameKinds, Skips, EndsLine, Stands, ending_at, line_at, Starts, EndsValue}
 use Rattle.lines.proofs.Tokens.{between-drop}
 
 -- a token in front of those after it, and its kind
@@ -50,27 +51,30 @@ skip-all ts j (suc n) h all =
     let e : j + 1 + n ≡ j + suc n = omega arith in
     skip-more ts j (omega arith) (all j (omega arith) (omega arith)) ∙ skip-all ts (j + 1) n (omega arith) (λ k p q. all k (omega arith) (omega arith)) ∙ ap (λ (k : ℕ). skip_blanks (drop k ts)) e
 
+-- blanks from j up to r, and none at r
+skips-by : (ts : List Token) (j r : ℕ) → j ≤ r → r ≤ length ts → ((k : ℕ) → j ≤ k → k < r → (token_at ts k).kind ≡ blank_kind)
+    → (r < length ts → (token_at ts r).kind ≡ blank_kind → ⊥) → Skips ts j r
+unfolding skip_blanks
+skips-by ts j r on inside all other =
+    let q : j + (r - j) ≡ r = omega arith in
+    record {
+      on = on;
+      inside = inside;
+      is = skip-all ts j (r - j) (omega arith) (λ k p z. all k p (omega arith)) ∙ ap (λ (k : ℕ). skip_blanks (drop k ts)) q ∙ go (dec_lt r (length ts));
+      blank = all;
+      other = other;
+    }
+  where
+    go : Dec (r < length ts) → skip_blanks (drop r ts) ≡ drop r ts
+    go (yes h) = rw (in_front ts r h, skip_blanks) (rw (other-kind ts r blank_kind (other h)) refl)
+    go (no h) = rw (none-left ts r (omega arith), skip_blanks) refl
+
 -- what was found: the first token from j on that is no blank, or none
 pub skipped : (ts : List Token) (j len : ℕ) (found : Option ℕ) → len ≡ length ts → j ≤ len
     → MatchOption found ((k : ℕ) → j ≤ k → k < len → (token_at ts k).kind ≡ blank_kind)
     (λ i. (j ≤ i) × (i < len) × ((token_at ts i).kind ≡ blank_kind → ⊥) × ((k : ℕ) → j ≤ k → k < i → (token_at ts k).kind ≡ blank_kind)) → Skips ts j (unwrap_or found len)
-unfolding skip_blanks
-skipped ts j len None e h all =
-    let q : j + (len - j) ≡ len = omega arith in
-    record {
-      on = h;
-      inside = omega arith;
-      is = skip-all ts j (len - j) (omega arith) (λ k p r. all k p (omega arith)) ∙ ap (λ (k : ℕ). skip_blanks (drop k ts)) q
-          ∙ rw (none-left ts len (omega arith), skip_blanks) refl;
-    }
-skipped ts j len (Some i) e h (on, inside, other, all) =
-    let q : j + (i - j) ≡ i = omega arith in
-    record {
-      on = on;
-      inside = omega arith;
-      is = skip-all ts j (i - j) (omega arith) (λ k p r. all k p (omega arith)) ∙ ap (λ (k : ℕ). skip_blanks (drop k ts)) q
-          ∙ rw (in_front ts i (omega arith), skip_blanks) (rw (other-kind ts i blank_kind other) refl);
-    }
+skipped ts j len None e h all = skips-by ts j len h (omega arith) all (λ z. absurd (omega arith))
+skipped ts j len (Some i) e h (on, inside, other, all) = skips-by ts j i on (omega arith) all (λ z. other)
 
 -- what was found: the first newline from j on, or none
 pub ended : (ts : List Token) (j len : ℕ) (found : Option ℕ) → len ≡ length ts → j ≤ len
@@ -128,6 +132,31 @@ module _ (ts line : List Token) (end : ℕ) (l : line ≡ take end ts) (inside :
 
   token-line : (i : ℕ) → i < end → token_at line i ≡ token_at ts i
   token-line i h = ap (λ (x : List Token). token_at x i) l ∙ get_or-take end ts i no_name h
+
+  -- the same line of tokens of the same kinds
+  module _ (us : List Token) (A : SameKinds us ts) where
+    pub inside-alike : end ≤ length us
+    inside-alike = omega (arith, inside, A.same_length)
+
+    pub line-alike : SameKinds (take end us) line
+    line-alike = record { same_length = length-take-le end us inside-alike ∙ sym length-line; same_kind = λ k. go k (dec_lt k end) }
+      where
+        go : (k : ℕ) → Dec (k < end) → (token_at (take end us) k).kind ≡ (token_at line k).kind
+        go k (yes h) = ap (λ (u : Token). u.kind) (get_or-take end us k no_name h) ∙ A.same_kind k ∙ sym (ap (λ (u : Token). u.kind) (token-line k h))
+        go k (no h) =
+            ap (λ (u : Token). u.kind) (get_or-eq_default (take end us) no_name {n = k} (omega (arith, length-take-le end us inside-alike)))
+            ∙ sym (ap (λ (u : Token). u.kind) (get_or-eq_default line no_name {n = k} (omega (arith, length-line))))
+
+    pub skips-alike : (j r : ℕ) → Skips line j r → Skips (take end us) j r
+    skips-alike j r S =
+        skips-by (take end us) j r S.on (omega (arith, S.inside, line-alike.same_length)) (λ k p z. line-alike.same_kind k ∙ S.blank k p z)
+        (λ h z. S.other (omega (arith, h, line-alike.same_length)) (sym (line-alike.same_kind r) ∙ z))
+
+    pub kind-alike : (k kind : ℕ) → (token_at line k).kind ≡ kind → (token_at (take end us) k).kind ≡ kind
+    kind-alike k kind e = line-alike.same_kind k ∙ e
+
+    pub other-alike : (k kind : ℕ) → ((token_at line k).kind ≡ kind → ⊥) → (token_at (take end us) k).kind ≡ kind → ⊥
+    other-alike k kind n e = n (sym (line-alike.same_kind k) ∙ e)
 
   -- blanks before the key
   module _ (j key : ℕ) (S : Skips line j key) where
@@ -268,6 +297,10 @@ module _ (ts : List Token) (end from : ℕ) (inside : end ≤ length ts) (on : f
           inside = omega arith;
           is = rw (lt-ltb end (length ts) h) (ap drop_last_blank last ∙ drop-last (between ts from (end - 1)) (token_at ts (end - 1)) ∙ rw (other-kind ts (end - 1) blank_kind b) (sym last) ∙ whole);
         }
+
+-- tokens are of their own kinds
+pub same_kinds : (ts : List Token) → SameKinds ts ts
+same_kinds ts = record { same_length = refl; same_kind = λ k. refl }
 
 -- what the functions of a line are proved by
 pub ruleset marking = (after-newline, after-end, after-wrong, stands, after-colon, after-equals)

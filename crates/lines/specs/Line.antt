@@ -1,7 +1,7 @@
 -- One line of a list of tokens: where it ends, and how it starts. Assumes nothing.
 use Rattle.std.specs.Prelude.{ℕ, ◌+◌, ◌≤◌, ◌<◌, ◌≡◌, List, ltb, length, take, drop}
 use Rattle.rules.specs.Bytes.{pick}
-use Rattle.rules.specs.Tokens.{Token, text_kind, new_line_kind}
+use Rattle.rules.specs.Tokens.{Token, text_kind, blank_kind, new_line_kind}
 use Rattle.rules.specs.Numbers.{Result, unexpected_at_start, unexpected_after_key, ended_after_key, refused, ok}
 use Rattle.rules.specs.Lines.{Ending, newline, end_of_text, Line, Item, empty, skip_blanks, trimmed, read_assignment, read_field}
 use Rattle.tokens.specs.Entries.{token_at}
@@ -9,11 +9,18 @@ use Rattle.workspace.specs.Map.{between}
 use Rattle.lines.specs.declared.line.LineStart.{LineStart}
 use Rattle.lines.specs.declared.line.LineStart.TheVariants.{Empty, WrongStart, WrongAfter, Ended, Assigns, Gives}
 
+-- tokens of the same kinds, whatever their texts and places are
+pub record SameKinds (us ts : List Token) : Type 0 where
+  pub same_length : length us ≡ length ts
+  pub same_kind : (k : ℕ) → (token_at us k).kind ≡ (token_at ts k).kind
+
 -- the first token from j on that is no blank: r
 pub record Skips (ts : List Token) (j r : ℕ) : Type 0 where
   pub on : j ≤ r
   pub inside : r ≤ length ts
   pub is : skip_blanks (drop j ts) ≡ drop r ts
+  pub blank : (k : ℕ) → j ≤ k → k < r → (token_at ts k).kind ≡ blank_kind
+  pub other : r < length ts → (token_at ts r).kind ≡ blank_kind → ⊥
 
 -- the line that starts at token j ends at r: at the first newline, or with the text
 pub record EndsLine (ts : List Token) (j r : ℕ) : Type 0 where

@@ -1,9 +1,9 @@
 // One line: where it ends, how it starts, where its string value ends. All of it by the kinds of tokens alone.
-ghost use Rattle.std.specs.Prelude.{◌≡◌, ◌+◌, ◌≤◌, ◌<◌, length, take, drop};
-ghost use Rattle.rules.specs.Tokens.{text_kind};
+ghost use Rattle.std.specs.Prelude.{◌≡◌, ◌+◌, ◌≤◌, ◌<◌, List, length, take, drop};
+ghost use Rattle.rules.specs.Tokens.{Token, text_kind};
 ghost use Rattle.rules.specs.Lines.{skip_blanks, read_line, after_key};
 ghost use Rattle.tokens.specs.Entries.{token_at};
-ghost use Rattle.lines.specs.Line.{Skips, EndsLine, ending_at, line_at, Starts, EndsValue};
+ghost use Rattle.lines.specs.Line.{SameKinds, Skips, EndsLine, ending_at, line_at, Starts, EndsValue};
 
 use tokens::TokenKind;
 use tokens::table::Table;
@@ -45,7 +45,7 @@ fn after_key(tokens: &Table, end: usize, key: usize) -> LineStart
     requires inside { end ≤ length tokens.now }
     requires at_key { key < end }
     requires is_text { (token_at tokens.now key).kind ≡ text_kind }
-    ensures { Starts tokens.now end key (after_key (token_at tokens.now key) (ending_at tokens.now end) (skip_blanks (drop (key + 1) (take end tokens.now)))) result }
+    ensures { (ts : List Token) → SameKinds ts tokens.now → Starts ts end key (after_key (token_at ts key) (ending_at ts end) (skip_blanks (drop (key + 1) (take end ts)))) result }
 {
     let line = tokens.until(end);
     let mark = skip_blanks(&line, key + 1);
@@ -77,7 +77,8 @@ fn after_key(tokens: &Table, end: usize, key: usize) -> LineStart
 pub fn line_start(tokens: &Table, end: usize, from: usize) -> LineStart
     requires inside { end ≤ length tokens.now }
     requires on { from ≤ end }
-    ensures { Starts tokens.now end from (read_line (line_at tokens.now end from)) result }
+    ensures starts { Starts tokens.now end from (read_line (line_at tokens.now end from)) result }
+    ensures by_kinds { (ts : List Token) → SameKinds ts tokens.now → Starts ts end from (read_line (line_at ts end from)) result }
 {
     let line = tokens.until(end);
     let key = skip_blanks(&line, from);
@@ -95,7 +96,8 @@ pub fn line_start(tokens: &Table, end: usize, from: usize) -> LineStart
 pub fn value_end(tokens: &Table, end: usize, from: usize) -> usize
     requires inside { end ≤ length tokens.now }
     requires on { from ≤ end }
-    ensures { EndsValue tokens.now end from result }
+    ensures ends { EndsValue tokens.now end from result }
+    ensures by_kinds { (ts : List Token) → SameKinds ts tokens.now → EndsValue ts end from result }
 {
     if end < tokens.len() && from < end && tokens.kind(end - 1) == TokenKind::Blank as u32 {
         end - 1
