@@ -1,5 +1,6 @@
 pub mod Tokens
 pub mod Starts
+pub mod Pools
 pub mod Roles
 pub mod Parts
 pub mod Turns

@@ -5,7 +5,7 @@ use Rattle.parser.proofs.give_known.Goals as goal
 
 pub returns-then-is_string-clause-takes : goal.returns-then-is_string-clause-takes
 returns-then-is_string-clause-takes c =
-    give-string _ _ _ _ _ _ _ _ c.requires.at _ c.requires.known (sym c.is_string.ensures ∙ c.if-is_string.true) _ c.new.ensures _ c.value_end-to.ensures c.keep_field.new.ws c.keep_field.result c.keep_field.ensures.keeps
+    give-string _ _ _ _ _ _ _ _ c.requires.at _ c.requires.known (sym c.is_string.ensures ∙ c.if-is_string.true) _ c.new.ensures _ c.value_end-to.ensures.ends c.keep_field.new.ws c.keep_field.result c.keep_field.ensures.keeps
 
 pub invariant_of-place : goal.invariant_of-place
 invariant_of-place c = record { small = c.args.layout.small; on = c.requires.at.stands.inside; inside = omega (arith, c.requires.at.in_tokens, c.args.layout.tokens) }
