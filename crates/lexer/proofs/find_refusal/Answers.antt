@@ -1,4 +1,4 @@
-use Rattle.std.proofs.Common.{refl}
+use Rattle.std.proofs.Common.{refl, rules}
 use Rattle.scan.proofs.Classes.{named}
 use Rattle.scan.specs.declared.class.ByteClass.TheVariants.{Backslash, Dollar, Hash}
 use Rattle.lexer.proofs.Fates.{fated-start, fated-quiet, fated-dollar, dollar-bad, fated-comment, fated-backslash, fated-end}
@@ -14,7 +14,7 @@ pub loop-i-preserved-in-Ok : goal.loop-i-preserved-in-Ok
 loop-i-preserved-in-Ok c = fated-dollar _ _ c.loop-i.invariant 10 c.loop-i-test.true c.in-Dollar.ensures _ _ _ _ refl c.in-Ok.ensures
 
 pub loop-i-preserved-in-Hash : goal.loop-i-preserved-in-Hash
-loop-i-preserved-in-Hash c = fated-comment _ _ c.loop-i.invariant 11 c.loop-i-test.true c.in-Hash.ensures _ refl c.comment_end-i.ensures
+loop-i-preserved-in-Hash c = fated-comment _ _ c.loop-i.invariant 11 c.loop-i-test.true c.in-Hash.ensures _ refl (search rules)
 
 pub loop-i-preserved-in-Backslash : goal.loop-i-preserved-in-Backslash
 loop-i-preserved-in-Backslash c = fated-backslash _ _ c.loop-i.invariant 8 c.loop-i-test.true c.in-Backslash.ensures _ _ _ _ refl c.backslash_at.ensures
