@@ -59,13 +59,13 @@ module _ (R : Reads) where
 
 -- a turn; x is the entry of the variable's length
 module _ {R : Reads} {lens stops sums : List ℕ} (S : State R lens stops sums) (i : ℕ) (h : i < length R.keys) (x : ℕ) (e : x ≡ get_or lens i 0) where
-  pub step-valued : (x ≡ 0 → ⊥) → State R lens stops sums × Steps R lens stops lens stops i (Ok Known)
+  pub step-valued : (x ≡ 0 → ⊥) → State R lens stops sums × Steps R lens stops sums lens stops sums i (Ok Known)
   step-valued z =
       let y = nonzero x z in
-      (S, (refl, refl, λ q. z (e ∙ q), λ f. rw (rule-next R i h, add-one) (lens-valued i (rule R i) (drop (suc i) (rules_of R)) f lens y.0 (sym e ∙ y.1))))
+      (S, (refl, refl, refl, λ q. z (e ∙ q), λ f. rw (rule-next R i h, add-one) (lens-valued i (rule R i) (drop (suc i) (rules_of R)) f lens y.0 (sym e ∙ y.1))))
 
   pub step-visited : x ≡ 0 → (lens' stops' sums' : List ℕ) (r : Result Visited TooLarge) → State R lens' stops' sums' × Visits R lens stops lens' stops' i r
-      → State R lens' stops' sums' × Steps R lens stops lens' stops' i r
+      → State R lens' stops' sums' × Steps R lens stops sums lens' stops' sums' i r
   step-visited z lens' stops' sums' (Err k) a =
       (a.0, (a.1.0, λ f. rw (rule-next R i h) (lens-over i (rule R i) (drop (suc i) (rules_of R)) f lens (sym e ∙ z) a.1.1)))
   step-visited z lens' stops' sums' (Ok Known) a = absurd a.1

@@ -58,7 +58,7 @@ size-other lens i x rank t d e = rw (get_or-set_other lens i rank x 0 d) e
 module _ {R : Reads} {lens stops sums : List ℕ} (S : State R lens stops sums) (waiters : List ℕ) (long : length waiters ≡ length R.keys) (i b : ℕ) (h : i < length R.keys) where
   module _ {lens' stops' sums' : List ℕ} where
     -- it waits: the token at which it stopped is k, and its block is marked there
-    pub turn-blocked : (k : ℕ) → State R lens' stops' sums' × Steps R lens stops lens' stops' i (Ok (Blocked k)) → (waiters' : List ℕ) → Adds R.ranks waiters waiters' k b
+    pub turn-blocked : (k : ℕ) → State R lens' stops' sums' × Steps R lens stops sums lens' stops' sums' i (Ok (Blocked k)) → (waiters' : List ℕ) → Adds R.ranks waiters waiters' k b
         → State R lens' stops' sums' × Turns R lens stops waiters lens' stops' waiters' i b (Ok None)
     turn-blocked k a waiters' M = (
       a.0,
@@ -88,7 +88,7 @@ module _ {R : Reads} {lens stops sums : List ℕ} (S : State R lens stops sums) 
     )
 
     -- it has a value now: the blocks of m waited for it
-    pub turn-valued : State R lens' stops' sums' × Steps R lens stops lens' stops' i (Ok Valued) → (m : Blocks) → m.0 ≡ get_or waiters i 0
+    pub turn-valued : State R lens' stops' sums' × Steps R lens stops sums lens' stops' sums' i (Ok Valued) → (m : Blocks) → m.0 ≡ get_or waiters i 0
         → State R lens' stops' sums' × Turns R lens stops waiters lens' stops' waiters i b (Ok (Some m))
     turn-valued a m e =
         let valued : get_or lens' i 0 ≡ suc a.1.0 = rw a.1.2 (get_or-set_same lens i (suc a.1.0) 0 (omega (arith, S.lens_long))) in (

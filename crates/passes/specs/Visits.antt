@@ -103,14 +103,14 @@ zeros (suc k ∷ l) = zeros l
 abbrev pub pass_from : Reads → ℕ → Bool → List ℕ → Lens
 pass_from R i found lens = pass_lens i (drop i (rules_of R)) found lens
 
--- variable i's turn in a pass
-abbrev pub Steps : Reads → List ℕ → List ℕ → List ℕ → List ℕ → ℕ → Result Visited TooLarge → Type 0
-Steps R lens stops lens' stops' i (Err k) = (k.0 ≡ i) × ((f : Bool) → pass_from R i f lens ≡ Lens.stopped i)
-Steps R lens stops lens' stops' i (Ok Known) =
-    (lens' ≡ lens) × (stops' ≡ stops) × (get_or lens i 0 ≡ 0 → ⊥) × ((f : Bool) → pass_from R i f lens ≡ pass_from R (i + 1) f lens)
-Steps R lens stops lens' stops' i (Ok (Blocked k)) =
+-- variable i's turn in a pass: all stays where it has a value
+abbrev pub Steps : Reads → List ℕ → List ℕ → List ℕ → List ℕ → List ℕ → List ℕ → ℕ → Result Visited TooLarge → Type 0
+Steps R lens stops sums lens' stops' sums' i (Err k) = (k.0 ≡ i) × ((f : Bool) → pass_from R i f lens ≡ Lens.stopped i)
+Steps R lens stops sums lens' stops' sums' i (Ok Known) =
+    (lens' ≡ lens) × (stops' ≡ stops) × (sums' ≡ sums) × (get_or lens i 0 ≡ 0 → ⊥) × ((f : Bool) → pass_from R i f lens ≡ pass_from R (i + 1) f lens)
+Steps R lens stops sums lens' stops' sums' i (Ok (Blocked k)) =
     (lens' ≡ lens) × (stops' ≡ set stops i (suc k)) × (k < end_at R i) × (size_at R lens k ≡ 0) × ((f : Bool) → pass_from R i f lens ≡ pass_from R (i + 1) f lens)
-Steps R lens stops lens' stops' i (Ok Valued) =
+Steps R lens stops sums lens' stops' sums' i (Ok Valued) =
     (x : ℕ) × (zeros lens' < zeros lens) × (lens' ≡ set lens i (suc x)) × (stops' ≡ stops) × ((f : Bool) → pass_from R i f lens ≡ pass_from R (i + 1) true lens')
 
 -- variable i has a reference without a value

@@ -98,7 +98,7 @@ impl<'a> Progress<'a> {
         ensures same { SameColumns self.old self.new }
         ensures same_waiters { self.new.waiters.now ≡ self.old.waiters.now }
         ensures steps { Stands (reads rules.entry) self.new
-            × Steps (reads rules.entry) self.old.lengths.now self.old.stops.now self.new.lengths.now self.new.stops.now i result }
+            × Steps (reads rules.entry) self.old.lengths.now self.old.stops.now self.old.sums.now self.new.lengths.now self.new.stops.now self.new.sums.now i result }
     {
         if self.lengths[i] == 0 {
             return self.visit(rules, i);
