@@ -6,7 +6,7 @@ use mathlib.Core.List.{List, [], ◌∷◌, ◌++◌, append_assoc, append-nil}
 use native.Mathlib.Omega.{arith}
 use lib.ListN.{length, get_or, take, drop, replicate, length-append, length-replicate, length-take, length-drop}
 use lib.Seq.{take-take, drop-drop, take_at, drop_at}
-use borrow.Author.Tests.{leb-true, leb-false}
+use borrow.Author.Tests.{leb-true, leb-false, le-leb, lt-leb}
 use Rattle.rules.specs.Bytes.{to_little, pick}
 use Rattle.rules.specs.Lines.{is_string}
 use Rattle.rules.specs.Records.{record_bytes, argument_records, records_of, records}
@@ -21,6 +21,7 @@ use Rattle.workspace.proofs.Frames.{column-low, decode-low}
 use Rattle.workspace.proofs.Links.{keys_length}
 use Rattle.writer.specs.Tables.{Tables, tables_in, value_between}
 use Rattle.writer.specs.Writing.{Remembered, Written}
+use Rattle.writer.proofs.Places.{scratch-fits}
 use Rattle.writer.proofs.Uses.{fresh, none_written, and_then}
 use Rattle.records.specs.Contents.{fields_of, values_from, content_at, present_at, presents, Valued, Listed, Entered, Fielded}
 use Rattle.records.specs.Recording.{list_bytes, entry_bytes, Standing, Fieldable, Presentable, Recorded}
@@ -70,23 +71,31 @@ absent {t} {places} {out} {at} f r z = rw z (none_written {t = t} {places = plac
 -- a field that is there, and the two numbers that its row gives: from which token up to which, or from which row how many
 module _ {t : Tables} {places stack out : List ℕ} {at f entry : ℕ} (s : Standing t places stack out at (entry_bytes t f entry) × Entered (length t.tokens) t f entry)
     (key from to : ℕ) (ke : key + 1 ≡ entry) (fe : from ≡ get_or t.starts key 0) (te : to ≡ get_or t.ends key 0)
-    (kind : ℕ) (ne : kind ≡ f) (b : Bool) (be : b ≡ is_string f) where
+    (kind : ℕ) (ne : kind ≡ f) where
   is_entry : entry ≡ suc key
   is_entry = omega arith
 
-  module _ (q : b ≡ true) where
+  module _ (h : kind < 8) where
+    a-string : is_string f ≡ true
+    unfolding is_string
+    a-string = le-leb f 7 (omega arith)
+
     pub is-string : entry_bytes t f entry ≡ record_bytes kind (value_between t from to)
-    is-string = rw (is_entry, string_bytes t f key (sym be ∙ q), fe, te, ne) refl
+    is-string = rw (is_entry, string_bytes t f key a-string, fe, te, ne) refl
 
     pub string-fits : Standing t places stack out at (record_bytes kind (value_between t from to)) × Valued (length t.tokens) t from to
-    string-fits = (subst (λ (x : List ℕ). Standing t places stack out at x) is-string s.0, rw (fe, te) (s.1.strings key (string-number f (sym be ∙ q)) is_entry))
+    string-fits = (subst (λ (x : List ℕ). Standing t places stack out at x) is-string s.0, rw (fe, te) (s.1.strings key (omega arith) is_entry))
 
-  module _ (q : b ≡ false) where
+  module _ (h : 8 ≤ kind) where
+    a-list : is_string f ≡ false
+    unfolding is_string
+    a-list = lt-leb f 7 (omega arith)
+
     pub is-list : entry_bytes t f entry ≡ list_bytes t kind from to
-    is-list = rw (is_entry, list-bytes t f key (sym be ∙ q), fe, te, ne) refl
+    is-list = rw (is_entry, list-bytes t f key a-list, fe, te, ne) refl
 
     pub list-fits : Standing t places stack out at (list_bytes t kind from to) × Listed (length t.tokens) t from to
-    list-fits = (subst (λ (x : List ℕ). Standing t places stack out at x) is-list s.0, rw (fe, te) (s.1.lists key (list-number f (sym be ∙ q)) is_entry))
+    list-fits = (subst (λ (x : List ℕ). Standing t places stack out at x) is-list s.0, rw (fe, te) (s.1.lists key (omega arith) is_entry))
 
 -- the records of a field, and those of the later ones
 pub records-front : (t : Tables) (entries : List ℕ) (f m : ℕ) → records (presents t entries f (suc m)) ≡ entry_bytes t f (get_or entries f 0) ++ records (presents t entries (suc f) m)
@@ -290,8 +299,8 @@ module _ (n count v : ℕ) (ws pool : List ℕ) (r : Room n count v ws) where
           ready = rw (tokens, keys) x.ready;
           fielded = rw tokens x.fielded;
           known = omega (arith, length-take 11 (drop (12 * n) ws), length-drop (12 * n) ws, r.room);
-          for_places = rw pe (omega (arith, length-take (2 * v) scratch, scratch-long, r.few, r.tokens));
-          for_frames = rw ke (omega (arith, length-drop (2 * v) scratch, scratch-long, r.few, r.tokens));
+          for_places = rw pe (omega (arith, length-take (2 * v) scratch, scratch-long, scratch-fits r));
+          for_frames = rw ke (omega (arith, length-drop (2 * v) scratch, scratch-long, scratch-fits r));
           fits = x.fits;
         })
 

@@ -4,17 +4,12 @@ ghost use Rattle.passes.specs.Sums.{size_in};
 ghost use Rattle.workspace.specs.Map.{Room};
 ghost use Rattle.records.specs.Measuring.{on_sum, sum_of_row, measure_rows, measure_entry, measure_in};
 
+use crate::RecordKind;
 use passes::sums;
 use passes::sums::View;
 use scan::column::{column, entry};
 use tokens::table::Table;
 use workspace::layout::Layout;
-
-// Fields have the numbers 1 to LAST_FIELD; those from FIRST_LIST on are lists, the others strings. Kept: by number, as `measure_fields` counts them and as a
-// refusal tells them.
-const FIRST_LIST: usize = 8;
-
-const LAST_FIELD: usize = 10;
 
 // The first refusal.
 #[derive(Clone, Copy)]
@@ -70,7 +65,7 @@ impl<'a> Values<'a> {
         let Some(row) = key.checked_sub(1) else {
             return Ok(need);
         };
-        if FIRST_LIST <= f {
+        if RecordKind::FIRST_LIST <= f {
             let first = entry(self.starts, row);
             let rows = entry(self.ends, row);
             return self.rows(f, need + 10, first, rows);
@@ -98,7 +93,7 @@ pub fn measure(ws: &[u32], pool: &[u8], layout: Layout) -> Result<u64, Stop>
     };
     let entries = column(ws, 12 * n, 11);
     let mut need: u64 = 0;
-    for f in 1..=LAST_FIELD {
+    for f in 1..=RecordKind::LAST_FIELD {
         need = values.field(f, need, entry(entries, f))?;
     }
     Ok(need)

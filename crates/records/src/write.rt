@@ -8,14 +8,12 @@ ghost use Rattle.records.specs.Contents.{fields_of, values_from, presents, Value
 ghost use Rattle.records.specs.Recording.{head, list_bytes, entry_bytes, Fieldable, Presentable, Recorded};
 ghost use Rattle.records.specs.Writers.{Stands, Wrote};
 
+use crate::RecordKind;
 use fields::Field;
 use scan::store::copy;
 use workspace::layout::Layout;
 use writer::columns::Columns;
 use writer::{forget, write_value};
-
-// The kind of an argument's record; that of a field's is the field's number.
-const ARGUMENT: u16 = 11;
 
 // The head of a record: the payload's length in four bytes, the kind in two.
 // Kept: the clause says what becomes of the whole output, so it needs the place.
@@ -75,7 +73,7 @@ impl<'t, 'a> Writer<'t, 'a> {
         for i in row..row + rows {
             let from = self.columns.start(i);
             let to = self.columns.end(i);
-            self.write_record(ARGUMENT, from, to);
+            self.write_record(RecordKind::ARGUMENT as u16, from, to);
         }
     }
 
@@ -102,7 +100,7 @@ impl<'t, 'a> Writer<'t, 'a> {
         let from = self.columns.start(key);
         let to = self.columns.end(key);
         let kind = number(field);
-        if field.is_string() {
+        if (kind as usize) < RecordKind::FIRST_LIST {
             self.write_record(kind, from, to);
         } else {
             self.write_list(kind, from, to);

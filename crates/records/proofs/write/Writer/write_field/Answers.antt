@@ -6,13 +6,13 @@ pub returns-in_default : goal.returns-in_default
 returns-in_default c = record { same_places = refl; same_stack = refl; same_out = refl; columns = refl; places_long = refl; stack_long = refl; written = absent _ c.requires.0.remembered (omega (arith, c.in_default.ensures)) }
 
 pub write_record-requires : goal.write_record-requires
-write_record-requires c = string-fits c.requires _ _ _ (omega (arith, c.in-Some.ensures)) c.start-from.ensures c.end-to.ensures _ c.number-kind.ensures _ c.is_string.ensures c.if-is_string.true
+write_record-requires c = string-fits c.requires _ _ _ (omega (arith, c.in-Some.ensures)) c.start-from.ensures c.end-to.ensures _ c.number-kind.ensures c.if-kind-lt-FIRST_LIST.true
 
 pub write_list-requires : goal.write_list-requires
-write_list-requires c = list-fits c.requires _ _ _ (omega (arith, c.in-Some.ensures)) c.start-from.ensures c.end-to.ensures _ c.number-kind.ensures _ c.is_string.ensures c.if-is_string.false
+write_list-requires c = list-fits c.requires _ _ _ (omega (arith, c.in-Some.ensures)) c.start-from.ensures c.end-to.ensures _ c.number-kind.ensures c.if-kind-lt-FIRST_LIST.false
 
-pub returns-then-is_string : goal.returns-then-is_string
-returns-then-is_string c = rw (is-string c.requires _ _ _ (omega (arith, c.in-Some.ensures)) c.start-from.ensures c.end-to.ensures _ c.number-kind.ensures _ c.is_string.ensures c.if-is_string.true) c.write_record.ensures
+pub returns-then-kind-lt-FIRST_LIST : goal.returns-then-kind-lt-FIRST_LIST
+returns-then-kind-lt-FIRST_LIST c = rw (is-string c.requires _ _ _ (omega (arith, c.in-Some.ensures)) c.start-from.ensures c.end-to.ensures _ c.number-kind.ensures c.if-kind-lt-FIRST_LIST.true) c.write_record.ensures
 
-pub returns-else-is_string : goal.returns-else-is_string
-returns-else-is_string c = rw (is-list c.requires _ _ _ (omega (arith, c.in-Some.ensures)) c.start-from.ensures c.end-to.ensures _ c.number-kind.ensures _ c.is_string.ensures c.if-is_string.false) c.write_list.ensures
+pub returns-else-kind-lt-FIRST_LIST : goal.returns-else-kind-lt-FIRST_LIST
+returns-else-kind-lt-FIRST_LIST c = rw (is-list c.requires _ _ _ (omega (arith, c.in-Some.ensures)) c.start-from.ensures c.end-to.ensures _ c.number-kind.ensures c.if-kind-lt-FIRST_LIST.false) c.write_list.ensures
