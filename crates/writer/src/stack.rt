@@ -1,5 +1,6 @@
 // The values that are begun and wait, the last one on top: three entries each, on lent memory from its end down.
-ghost use Rattle.std.specs.Prelude.{◌≡◌, ◌∷◌, ◌+◌, ◌≤◌, ◌<◌, length, MatchOption};
+ghost use Rattle.std.specs.Prelude.{◌≡◌, [], ◌∷◌, ◌+◌, ◌≤◌, ◌<◌, length, MatchOption};
+ghost use Rattle.scan.specs.Stores.{puts};
 ghost use Rattle.writer.specs.Frames.{frames};
 
 // What is left of a value: its next token, the token past it, and the rank of the variable whose value it is.
@@ -23,6 +24,7 @@ impl<'a> Stack<'a> {
         ensures same { self.new.entries.ghost_name ≡ self.old.entries.ghost_name }
         ensures long { length self.new.entries.now ≡ length self.old.entries.now }
         ensures top { self.new.top + 3 ≡ self.old.top }
+        ensures stored { self.new.entries.now ≡ puts self.old.entries.now self.new.top (frame.next ∷ frame.end ∷ frame.owner ∷ []) }
         ensures pushed { frames self.new ≡ frame.next ∷ frame.end ∷ frame.owner ∷ frames self.old }
     {
         let top = self.top - 3;
