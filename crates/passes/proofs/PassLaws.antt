@@ -221,17 +221,19 @@ module _ {R : Reads} {w : ℕ} {lens₀ lens stops sums waiters : List ℕ} {due
   unfolding pass_lens
   ended = rw (rules-past R i h) at P.rest
 
+-- past the last variable
+pub pass-done : {R : Reads} {w : ℕ} {lens₀ lens stops sums waiters : List ℕ} {due : ℕ} (found : Option Blocks) (i : ℕ) → Passing R w lens₀ lens stops sums waiters due found i → length R.keys ≤ i
+    → State R lens stops sums × Passes R w lens₀ lens stops waiters (Ok found)
+pass-done (Some m) i P h = (P.state, (P.fewer refl, sym (ended P h), record { at = λ t c r k o. P.past t c r (omega arith) k o }))
+pass-done {w = w} None i P h = (
+  P.state,
+  (
+    (λ t r z. let c = block_of w P.blocks.some t in rests-missing P.state _ t c.0 r (P.past t c.0 r (omega arith) c.1 (no-bit c.0)) z),
+    sym (ended P h),
+  ),
+)
+
 -- past the last block
 pub pass-ends : {R : Reads} {w : ℕ} {lens₀ lens stops sums waiters : List ℕ} {due : ℕ} (found : Option Blocks) (b : ℕ) → Passing R w lens₀ lens stops sums waiters due found (b * w) → 32 ≤ b
     → State R lens stops sums × Passes R w lens₀ lens stops waiters (Ok found)
-pass-ends {w = w} (Some m) b P n =
-    let h : 32 * w ≤ b * w = mul-le-mul_right w n in
-    (P.state, (P.fewer refl, sym (ended P (omega (arith, P.blocks.wide))), record { at = λ t c r k o. P.past t c r (omega (arith, P.blocks.wide)) k o }))
-pass-ends {w = w} None b P n =
-    let h : 32 * w ≤ b * w = mul-le-mul_right w n in (
-      P.state,
-      (
-        (λ t r z. let c = block_of w P.blocks.some t in rests-missing P.state _ t c.0 r (P.past t c.0 r (omega (arith, P.blocks.wide)) c.1 (no-bit c.0)) z),
-        sym (ended P (omega (arith, P.blocks.wide))),
-      ),
-    )
+pass-ends {w = w} found b P n = let h : 32 * w ≤ b * w = mul-le-mul_right w n in pass-done found (b * w) P (omega (arith, P.blocks.wide))

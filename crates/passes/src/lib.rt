@@ -38,8 +38,11 @@ impl<'a> Progress<'a> {
         let mut due = set;
         let mut found: Option<Blocks> = None;
         for b in 0..Blocks::COUNT {
+            let from = b as usize * width;
+            if v <= from {
+                break;
+            }
             if due.has(b) {
-                let from = b as usize * width;
                 for i in from..(from + width).min(v) {
                     if let Some(m) = self.turn(rules, i, b)? {
                         due = due.union(m);

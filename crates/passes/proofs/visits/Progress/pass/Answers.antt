@@ -1,5 +1,5 @@
 use Rattle.std.proofs.Common.{ℕ, refl, ◌∙◌, ap, arith, bit_or}
-use Rattle.passes.proofs.PassLaws.{woken-or, pass-skip, pass-next, pass-nothing, pass-wakes, pass-ends}
+use Rattle.passes.proofs.PassLaws.{woken-or, pass-skip, pass-next, pass-nothing, pass-wakes, pass-done, pass-ends}
 use Rattle.passes.proofs.States.{same-then}
 use Rattle.passes.proofs.visits.Progress.pass.Goals as goal
 use Rattle.passes.proofs.visits.Progress.pass.Goals.{in-Some, in_default, then-has+else-loop-i-test, else-has}
@@ -27,5 +27,8 @@ loop-b-preserved c =
           rw (w.self-is, w.due-is, w.found-is) (c.loop-b.invariant.0, pass-skip c.loop-b.invariant.1 c.loop-b.b refl _ c.has.ensures w.if-has.false _ refl)
     ]
 
-pub returns-clause-passes : goal.returns-clause-passes
-returns-clause-passes c = pass-ends _ c.loop-b.b c.loop-b.invariant.1 c.loop-b-test.false
+pub returns-after-loop-b-clause-passes : goal.returns-after-loop-b-clause-passes
+returns-after-loop-b-clause-passes c = pass-ends _ c.loop-b.b c.loop-b.invariant.1 c.loop-b-test.false
+
+pub returns-then-v-from-clause-passes : goal.returns-then-v-from-clause-passes
+returns-then-v-from-clause-passes c = pass-done _ _ c.loop-b.invariant.1 c.if-v-from.true
