@@ -28,12 +28,12 @@ fn push_number<S: Sink>(sink: &mut S, n: u64)
 
 // The line of a string or an argument: its payload shows as it is.
 #[tactic(auto, using(crate::proofs::LineLengths::line_lengths))]
-fn push_value<S: Sink>(sink: &mut S, kind: u16, payload: &[u8])
+fn push_value<S: Sink>(sink: &mut S, kind: u64, payload: &[u8])
     requires { length (line_of (value kind payload.now)) ≤ S.room sink.old }
     ensures taken { S.Takes sink.old (line_of (value kind payload.now)) sink.new }
     ensures left { S.room sink.new + length (line_of (value kind payload.now)) ≡ S.room sink.old }
 {
-    push_number(sink, kind as u64);
+    push_number(sink, kind);
     push_number(sink, payload.len() as u64);
     sink.push_bytes(payload);
     sink.push(LF);
@@ -41,12 +41,12 @@ fn push_value<S: Sink>(sink: &mut S, kind: u16, payload: &[u8])
 
 // The line of a list: its payload shows as its count.
 #[tactic(auto, using(crate::proofs::LineLengths::line_lengths))]
-fn push_count<S: Sink>(sink: &mut S, kind: u16, n: u32)
+fn push_count<S: Sink>(sink: &mut S, kind: u64, n: u32)
     requires { length (line_of (count kind n)) ≤ S.room sink.old }
     ensures taken { S.Takes sink.old (line_of (count kind n)) sink.new }
     ensures left { S.room sink.new + length (line_of (count kind n)) ≡ S.room sink.old }
 {
-    push_number(sink, kind as u64);
+    push_number(sink, kind);
     push_number(sink, COUNT_SIZE);
     sink.push_decimal(n as u64);
     sink.push(LF);
@@ -59,7 +59,7 @@ pub fn push_line<S: Sink>(sink: &mut S, record: &FormedRecord)
     ensures left { S.room sink.new + length (line_of (record_told record.now)) ≡ S.room sink.old }
 {
     match record.content {
-        Content::Bytes(payload) => push_value(sink, record.kind, payload),
-        Content::Count(count) => push_count(sink, record.kind, count),
+        Content::Bytes(payload) => push_value(sink, u64::from(record.kind), payload),
+        Content::Count(count) => push_count(sink, u64::from(record.kind), count),
     }
 }
