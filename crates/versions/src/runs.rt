@@ -1,10 +1,20 @@
 // A version cut into runs of ASCII letters and of ASCII digits: all other bytes only separate.
-ghost use Rattle.std.specs.Prelude.{◌≡◌, ◌∷◌, [], MatchOption};
+ghost use Rattle.std.specs.Prelude.{◌≡◌, ◌∷◌, [], take, drop, MatchOption};
+ghost use Rattle.rules.specs.Bytes.{run};
+ghost use Rattle.rules.specs.Versions.{value, is_digit, is_letter};
 ghost use Rattle.rules.specs.Versions as Rules;
+ghost use Rattle.versions.specs.Kinds.{kind_of, Fronts};
 ghost use Rattle.versions.specs.Views.{told_run};
 
 use crate::number::Number;
 use crate::prefix::split_while;
+
+// The kinds of runs: letters are below digits.
+#[derive(Clone, Copy, PartialEq, Eq, PartialOrd, Ord)]
+pub enum Kind {
+    Letters,
+    Digits,
+}
 
 // A run of letters is below a run of digits.
 #[derive(Clone, Copy, PartialEq, Eq, PartialOrd, Ord)]
@@ -13,21 +23,66 @@ pub enum Run<'a> {
     Digits(Number<'a>),
 }
 
+// The kind of the runs that have this byte; none has a byte that only separates.
+#[tactic(auto, unfolding(rules::specs::Versions::is_digit, rules::specs::Versions::is_letter, rules::specs::Bytes::within, rules::specs::Bytes::pick))]
+#[inline]
+fn kind_of(b: u8) -> Option<Kind>
+    ensures { result ≡ kind_of b }
+{
+    match b {
+        b'0'..=b'9' => Some(Kind::Digits),
+        b'A'..=b'Z' | b'a'..=b'z' => Some(Kind::Letters),
+        _ => None,
+    }
+}
+
+// The text from its first run on, and that run's kind, where there is a run.
+#[inline]
+pub fn first_kind(text: &[u8]) -> Option<(Kind, &[u8])>
+    ensures { Fronts text.now result }
+{
+    for (i, b) in text.iter().enumerate() {
+        if let Some(kind) = kind_of(*b) {
+            return Some((kind, &text[i..]));
+        }
+    }
+    None
+}
+
+// The digits at the front, as a number, and what comes after them.
+#[inline]
+pub fn split_number(text: &[u8]) -> (Number<'_>, &[u8])
+    ensures number { value 0 result.0.digits.now ≡ value 0 (take (run is_digit text.now) text.now) }
+    ensures rest { result.1.now ≡ drop (run is_digit text.now) text.now }
+{
+    let (digits, rest) = split_while(|b| b.is_ascii_digit(), text);
+    (Number::new(digits), rest)
+}
+
+// The letters at the front, and what comes after them.
+#[inline]
+pub fn split_letters(text: &[u8]) -> (&[u8], &[u8])
+    ensures letters { result.0.now ≡ take (run is_letter text.now) text.now }
+    ensures rest { result.1.now ≡ drop (run is_letter text.now) text.now }
+{
+    split_while(|b| b.is_ascii_alphabetic(), text)
+}
+
 // The first run and what comes after it, where there is one.
 #[inline]
 fn split_first_run(text: &[u8]) -> Option<(Run<'_>, &[u8])>
     ensures { MatchOption result (Rules.runs text.now ≡ []) (λ r. Rules.runs text.now ≡ told_run r.0 ∷ Rules.runs r.1.now) }
 {
-    let (_, text) = split_while(|b| !b.is_ascii_alphanumeric(), text);
-    let (digits, rest) = split_while(|b| b.is_ascii_digit(), text);
-    if !digits.is_empty() {
-        return Some((Run::Digits(Number::new(digits)), rest));
+    match first_kind(text)? {
+        (Kind::Letters, front) => {
+            let (letters, rest) = split_letters(front);
+            Some((Run::Letters(letters), rest))
+        }
+        (Kind::Digits, front) => {
+            let (number, rest) = split_number(front);
+            Some((Run::Digits(number), rest))
+        }
     }
-    let (letters, rest) = split_while(|b| b.is_ascii_alphabetic(), text);
-    if letters.is_empty() {
-        return None;
-    }
-    Some((Run::Letters(letters), rest))
 }
 
 // The runs of a version, from the front on.
