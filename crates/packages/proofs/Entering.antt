@@ -10,9 +10,7 @@ use Rattle.rules.specs.Variables.{limit}
 use Rattle.rules.specs.Packages as Rules
 use Rattle.rules.specs.Packages.{First, nothing, malformed, item, first_item, items, malformed_at, after, items_of, item_records, skip}
 use Rattle.rules.proofs.PackagesLaws.{cut_of, items-nothing, items-malformed, items-item, item-need}
-use Rattle.packages.specs.declared.field.Field.{Field}
-use Rattle.packages.specs.Numbers.{malformed_from}
-use Rattle.packages.specs.Entries.{Entry, whole, broken, entries_within, entries_of, items_in, records_in, both_records}
+use Rattle.packages.specs.Entries.{Entry, whole, broken, entries_within, entries_of, items_in, records_in, both_records, broken_from}
 
 shorter : (value : List ℕ) (i : Rules.Item) (rest : List ℕ) → first_item value ≡ item i rest → length rest < length value
 shorter value i rest e = let c = cut_of value i rest e in omega (arith, c.fits, c.sound.some_name)
@@ -87,32 +85,11 @@ entries-few value = go (suc (length value)) value (omega arith)
         by malformed e ih = rw (entries-broken (b ∷ bs) (sym e)) (omega arith)
         by (item i rest) e ih = let l = shorter (b ∷ bs) i rest e in rw (entries-item (b ∷ bs) i rest (sym e)) (omega (arith, l, ih rest (omega (arith, l))))
 
--- names and versions fit a record
-abbrev pub AllSmall : List Entry → Type 0
-AllSmall [] = Unit {0}
-AllSmall (whole i ∷ es) = (length i.name ≤ limit) × (length i.version ≤ limit) × AllSmall es
-AllSmall (broken ∷ es) = Unit {0}
-
-pub entries-small : (value : List ℕ) → length value ≤ limit → AllSmall (entries_of value)
-entries-small value h = go (suc (length value)) value (omega arith) h
-  where
-    go : (f : ℕ) (value : List ℕ) → length value < f → length value ≤ limit → AllSmall (entries_of value)
-    go zero value p h = absurd (omega arith)
-    go (suc f) value p h = by (first_item value) refl (λ v l k. go f v l k)
-      where
-        by : (x : First) → first_item value ≡ x → ((v : List ℕ) → length v < f → length v ≤ limit → AllSmall (entries_of v)) → AllSmall (entries_of value)
-        by nothing e ih = rw (entries-none value (sym e)) tt
-        by malformed e ih = rw (entries-broken value (sym e)) tt
-        by (item i rest) e ih =
-            let c = cut_of value i rest e in
-            let l = shorter value i rest e in
-            rw (entries-item value i rest (sym e)) (omega (arith, c.fits), omega (arith, c.fits), ih rest (omega (arith, l)) (omega (arith, l)))
-
 -- what is malformed, one item on
-pub malformed-on : (field : Field) (before : ℕ) (i : Rules.Item) (r : Rules.Items) → malformed_from field before (after i r) ≡ malformed_from field (before + 1) r
+pub broken-on : (before : ℕ) (i : Rules.Item) (r : Rules.Items) → broken_from before (after i r) ≡ broken_from (before + 1) r
 unfolding after
-malformed-on field before i (items is) = refl
-malformed-on field before i (malformed_at k) = ap (λ (n : ℕ). Err (record { field = field; index = n })) (omega arith)
+broken-on before i (items is) = refl
+broken-on before i (malformed_at k) = ap (λ (n : ℕ). Err n) (omega arith)
 
 -- at most 21 bytes for each byte of the value
 pub records-few : (field : ℕ) (value : List ℕ) → length (records_in field (entries_of value)) ≤ 21 * length value

@@ -3,4 +3,5 @@ pub mod Cutting
 pub mod Entering
 pub mod Records
 pub mod Finding
+pub mod Fitted
 pub mod Telling

@@ -19,26 +19,12 @@ use Rattle.packages.specs.declared.field.Malformed.{Malformed}
 use Rattle.packages.specs.Numbers.{field_number, both_malformed}
 use Rattle.packages.specs.Entries.{Entry, whole, broken, entries_of, items_in, records_in, both_records}
 use Rattle.packages.proofs.Entering.{entries-items}
+use Rattle.packages.proofs.Fitted.{records-all}
 
 -- what is answered and what is left in the output
 pub record Says (answer : Rules.Answer) (output : List ℕ) (p : Packaged) : Type 0 where
   pub answer_is : answer ≡ p.answer
   pub output_is : output ≡ p.output
-
--- where no item is malformed, all records are pushed
-after-items : (i : Rules.Item) (r : Items) (is : List Rules.Item) → after i r ≡ items is → (rest : List Rules.Item) × (r ≡ items rest) × (is ≡ i ∷ rest)
-unfolding after
-after-items i (items js) is e = let z : i ∷ js ≡ is = cc in (js, refl, sym z)
-after-items i (malformed_at k) is e = let z : ◌≡◌ {A = ℕ} 0 1 = cc in absurd (omega arith)
-
-records-all : (field : ℕ) (es : List Entry) (is : List Rules.Item) → items_in es ≡ items is → records_in field es ≡ items_records field is
-unfolding items_records
-records-all field [] [] e = refl
-records-all field [] (i ∷ is) e = let z : ◌≡◌ {A = List Rules.Item} [] (i ∷ is) = cc in cc
-records-all field (whole i ∷ es) is e =
-    let r = after-items i (items_in es) is e in
-    rw (r.2) (ap (λ (l : List ℕ). Rules.item_records field i ++ l) (records-all field es r.0 r.1))
-records-all field (broken ∷ es) is e = let z : ◌≡◌ {A = ℕ} 0 1 = cc in absurd (omega arith)
 
 by-items : (is js : List Rules.Item) (output : List ℕ) → packaged (items is) (items js) output ≡ written (items_records 5 is ++ items_records 6 js) output
 unfolding packaged

@@ -1,5 +1,5 @@
 -- What stands in a value: its items, the last of them malformed or none. Assumes nothing.
-use Rattle.std.specs.Prelude.{ℕ, zero, suc, List, [], ◌∷◌, ◌++◌, length}
+use Rattle.std.specs.Prelude.{ℕ, zero, suc, ◌+◌, List, [], ◌∷◌, ◌++◌, length, Result, Ok, Err}
 use Rattle.rules.specs.Packages as Rules
 use Rattle.rules.specs.Packages.{nothing, malformed, item, item_records}
 
@@ -31,3 +31,11 @@ records_in field (broken ∷ es) = []
 -- the records of fields 5 and 6, from their values
 abbrev pub both_records : List ℕ → List ℕ → List ℕ
 both_records fifth sixth = records_in 5 (entries_of fifth) ++ records_in 6 (entries_of sixth)
+
+-- the index of the first malformed item, where there is one, with so many items before these
+abbrev pub broken_from : ℕ → Rules.Items → Result (Unit {0}) ℕ
+broken_from before (Rules.items is) = Ok tt
+broken_from before (Rules.malformed_at k) = Err (before + k)
+
+abbrev pub first_broken : Rules.Items → Result (Unit {0}) ℕ
+first_broken r = broken_from 0 r

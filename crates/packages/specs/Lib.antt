@@ -1,5 +1,6 @@
 pub mod Cuts
 pub mod Entries
+pub mod Items
 pub mod Views
 pub mod Numbers
 pub mod Answers

@@ -1,9 +1,9 @@
 // Fields 5 and 6, the packages that a file requires, as items written as records.
 #![tactic(auto)]
 
-mod cut;
+pub mod cut;
 pub mod field;
-mod items;
+pub mod items;
 mod values;
 
 ghost use Rattle.std.specs.Prelude.{◌≡◌};

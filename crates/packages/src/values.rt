@@ -6,8 +6,8 @@ ghost use Rattle.scan.specs.Stores.{puts};
 ghost use Rattle.packages.specs.Numbers.{field_number};
 
 use crate::field::{Field, Malformed};
-use crate::items::push_items;
-use sink::{Buffer, Counter, Sink};
+use crate::items::{push_items, write_items};
+use sink::{Counter, Sink};
 use walker::Records;
 
 // The value of a field, from records in form; empty where the field is absent.
@@ -75,7 +75,7 @@ impl<'a> Values<'a> {
         requires room { length (all_records self.now) ≤ length output.old }
         ensures { output.new ≡ puts output.old 0 (all_records self.now) }
     {
-        let mut buffer = Buffer::new(output);
-        let _formed = self.push(&mut buffer);
+        let at = write_items(self.fifth, Field::Requires.number(), output, 0);
+        write_items(self.sixth, Field::RequiresPrivate.number(), output, at);
     }
 }

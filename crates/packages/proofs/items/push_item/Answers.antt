@@ -7,4 +7,4 @@ unfolding item_records
 returns-clause-taken g c =
     let s = g.met.S.Sink in let p = c in
     let t = s.then _ _ _ _ _ p.push_record.ensures.taken (s.then _ _ _ _ _ p.push_record-2.ensures.taken c.push_record-3.ensures.taken) in
-    rw (p.number.ensures, p.number-2.ensures) at t
+    rw p.number.ensures at t
