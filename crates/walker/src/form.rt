@@ -3,17 +3,8 @@ ghost use Rattle.std.specs.Prelude.{◌≡◌, ◌≢◌, ◌&&◌, length, eqb,
 ghost use Rattle.std.proofs.Math.Option.{none, some};
 ghost use Rattle.rules.specs.Bytes.{from_little};
 
+use crate::RecordForm;
 use crate::front::{Record, split_first_record};
-
-// fields up to this kind are strings
-// Kept, as those below, as numbers: bytes may hold any, and the form compares them by order.
-const LAST_STRING: u16 = 7;
-
-// fields up to this kind are lists
-const LAST_LIST: u16 = 10;
-
-// the kind of an argument
-const ARGUMENT: u16 = 11;
 
 // The bytes break the form.
 #[derive(Clone, Copy)]
@@ -84,15 +75,15 @@ impl<'a> Walk<'a> {
             (λ _. (rest : List ℕ) → formed_front self.now.last self.now.due (record { kind = kind; payload = payload.entry.now; rest = rest }) ≡ none) }
     {
         if 0 < self.due {
-            if kind != ARGUMENT {
+            if u64::from(kind) != RecordForm::ARGUMENT {
                 return Err(NotRecords);
             }
             return Ok((Content::Bytes(payload), self.last, self.due - 1));
         }
-        if kind <= self.last || LAST_LIST < kind {
+        if kind <= self.last || RecordForm::LAST_LIST < u64::from(kind) {
             return Err(NotRecords);
         }
-        if kind <= LAST_STRING {
+        if u64::from(kind) <= RecordForm::LAST_STRING {
             return Ok((Content::Bytes(payload), kind, 0));
         }
         let count = count_in(payload)?;

@@ -4,8 +4,7 @@ ghost use Rattle.std.proofs.Math.Option.{none, some};
 ghost use Rattle.rules.specs.Listing.{front};
 ghost use Rattle.std.specs.Iterator.{YieldsFirstBy, item_count};
 
-// the most bytes that a payload may have
-const LIMIT: usize = 67108864;
+use crate::RecordForm;
 
 // A record: its kind, and its payload.
 #[derive(Clone, Copy)]
@@ -25,7 +24,7 @@ pub fn split_first_record(bytes: &[u8]) -> Option<(Record<'_>, &[u8])>
         return None;
     };
     let size = u32::from_le_bytes([*a, *b, *c, *d]) as usize;
-    if LIMIT < size {
+    if RecordForm::LIMIT < size {
         return None;
     }
     let (payload, rest) = rest.split_at_checked(size)?;
