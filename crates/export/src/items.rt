@@ -7,8 +7,14 @@ ghost use Rattle.export.specs.Packages.{ExportsPackages};
 use crate::detail::put_numbers;
 use packages::{Refusal, packages};
 
-// the bytes of this call's detail: three numbers of eight bytes
-const DETAIL_SIZE: usize = 24;
+// The sizes of this call. Kept: sizes belong to a named type, as limits do.
+#[derive(Clone, Copy)]
+pub struct Room;
+
+impl Room {
+    // the bytes of its detail: three numbers of eight bytes
+    pub const DETAIL: usize = 24;
+}
 
 // What the detail says: the answer's number; bytes written, field or need; the index.
 #[tactic(auto, unfolding(rules::specs::Packages::number, rules::specs::Packages::answer_number, rules::specs::Packages::answer_index))]
@@ -28,7 +34,7 @@ fn tell(answer: Result<usize, Refusal>) -> (u32, u64, u64)
 pub fn cabbagelute_packages(records: &[u8], output: &mut [u8], detail: &mut [u8]) -> u32
     ensures { ExportsPackages records.now output.old detail.old output.new detail.new result }
 {
-    if detail.len() < DETAIL_SIZE {
+    if detail.len() < Room::DETAIL {
         return 19;
     }
     let (number, value, index) = tell(packages(records, output));
