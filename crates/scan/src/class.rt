@@ -8,24 +8,25 @@ use ByteClass::{
     OpenBrace, Other, Past, Single,
 };
 
-// The classes, for which the rules have their names. Identifier bytes and other ones are text by themselves.
+// The classes, for which the rules have their names. Identifier bytes and other ones are text by themselves. 3 to 9 are the kinds of the tokens that such
+// a byte makes.
 #[derive(Clone, Copy, Debug, PartialEq, Eq)]
 pub enum ByteClass {
-    Other,
-    Identifier,
-    Blank,
-    Equals,
-    Colon,
-    Single,
-    Double,
-    Backslash,
-    LineEnd,
-    Dollar,
-    Hash,
-    OpenBrace,
-    CloseBrace,
+    Other = 0,
+    Identifier = 1,
+    Blank = 3,
+    Equals = 4,
+    Colon = 5,
+    Single = 6,
+    Double = 7,
+    Backslash = 8,
+    LineEnd = 9,
+    Dollar = 10,
+    Hash = 11,
+    OpenBrace = 12,
+    CloseBrace = 13,
     // the end of the text
-    Past,
+    Past = 15,
 }
 
 // The class of each byte, by its value.
