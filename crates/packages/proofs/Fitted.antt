@@ -4,12 +4,11 @@ use mathlib.Core.Path.{◌≡◌, refl, ap, sym, ◌∙◌}
 use mathlib.Core.List.{List, [], ◌∷◌, ◌++◌}
 use native.Mathlib.Omega.{arith}
 use lib.ListN.{length, length-append}
-use Rattle.std.specs.Prelude.{Result, Ok, Err}
+use Rattle.std.specs.Prelude.{Ok}
 use Rattle.rules.specs.Packages as Rules
 use Rattle.rules.specs.Packages.{Items, items, malformed_at, after, items_of, items_records}
 use Rattle.scan.specs.Stores.{puts}
 use Rattle.scan.proofs.Stores.{puts-puts, length-puts}
-use Rattle.packages.specs.declared.field.Malformed.{Malformed}
 use Rattle.packages.specs.Numbers.{both_malformed}
 use Rattle.packages.specs.Entries.{Entry, whole, broken, entries_of, items_in, records_in, both_records}
 use Rattle.packages.specs.Items.{records_of, Fitting}

@@ -2,7 +2,7 @@
 use Prim.Native.Nat.{ℕ, ◌<◌, ◌≤◌}
 use mathlib.Core.Path.{◌≡◌, refl, ap, sym, ◌∙◌}
 use mathlib.Core.Bool.{true, false}
-use mathlib.Core.List.{List, [], ◌∷◌, ◌++◌}
+use mathlib.Core.List.{List, ◌++◌}
 use mathlib.Core.Option.{Option, none, some}
 use native.Mathlib.Omega.{arith}
 use lib.ListN.{length}
@@ -17,7 +17,7 @@ use Rattle.scan.proofs.Stores.{puts-front}
 use Rattle.walker.specs.Forms.{is_some}
 use Rattle.packages.specs.declared.field.Malformed.{Malformed}
 use Rattle.packages.specs.Numbers.{field_number, both_malformed}
-use Rattle.packages.specs.Entries.{Entry, whole, broken, entries_of, items_in, records_in, both_records}
+use Rattle.packages.specs.Entries.{entries_of, both_records}
 use Rattle.packages.proofs.Entering.{entries-items}
 use Rattle.packages.proofs.Fitted.{records-all}
 

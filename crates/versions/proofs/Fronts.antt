@@ -1,10 +1,10 @@
 -- What stands at the front of a version. Assumes nothing.
 use Prim.Native.Nat.{ℕ, ◌+◌, ◌<◌, ◌≤◌}
-use mathlib.Core.Path.{◌≡◌, refl, ap, sym, ◌∙◌}
+use mathlib.Core.Path.{◌≡◌, refl, sym}
 use mathlib.Core.Bool.{Bool, true, false}
 use mathlib.Core.List.{List, [], ◌∷◌}
-use lib.ListN.{length, get_or, take, drop, drop_of_length-le}
-use Rattle.std.specs.Prelude.{Option, Some, None}
+use lib.ListN.{length, get_or, drop, drop_of_length-le}
+use Rattle.std.specs.Prelude.{Some, None}
 use Rattle.std.proofs.Common.{add-one, drop-cons}
 use Rattle.std.specs.Char.{is_ascii_digit, is_ascii_alphabetic}
 use Rattle.rules.specs.Bytes.{run, within, pick}

@@ -1,5 +1,5 @@
 -- `packages::items::push_records` meets its contract: what went there, and what is left. Assumes nothing.
-use Rattle.std.proofs.Common.{refl, [], ◌≡◌, ◌+◌, ◌++◌, ◌∷◌, ap, sym, ◌∙◌, append_assoc, arith, length, length-append, inl, subst}
+use Rattle.std.proofs.Common.{refl, [], ◌≡◌, ◌+◌, ◌++◌, ◌∷◌, ap, sym, ◌∙◌, append_assoc, arith, length, length-append, inl}
 use Rattle.rules.specs.Packages.{item_records}
 use Rattle.packages.specs.Cuts.{told_item}
 use Rattle.packages.specs.Entries.{whole, entries_of, items_in, records_in, broken_from}

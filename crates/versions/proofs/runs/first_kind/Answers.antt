@@ -1,4 +1,4 @@
-use Rattle.std.proofs.Common.{sym, ◌∙◌, length, take, drop, ◌≡◌, ◌-◌, arith, length-drop}
+use Rattle.std.proofs.Common.{sym, ◌∙◌, length, drop, ◌-◌, arith, length-drop}
 use lib.Seq.{take_all}
 use Rattle.versions.proofs.Fronts.{begins_at, separates_at, none_from}
 use Rattle.versions.proofs.runs.first_kind.Goals as goal

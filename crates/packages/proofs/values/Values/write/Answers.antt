@@ -1,5 +1,4 @@
 -- `packages::values::Values::write` meets its contract: the records of one field after those of the other. Assumes nothing.
-use Rattle.std.proofs.Common.{◌∙◌, ap}
 use Rattle.packages.proofs.Fitted.{fifth-fits, sixth-fits, both-stored}
 use Rattle.packages.proofs.values.Values.write.Goals as goal
 

@@ -1,5 +1,4 @@
 use Rattle.std.proofs.Common.{sym, ap, ◌∙◌}
-use Rattle.versions.specs.Kinds.{run_of, after}
 use Rattle.versions.specs.Told.{told}
 use Rattle.versions.proofs.Turns.{both_end, second_left, first_left, kinds_decide, same_kind, run_decides, turn, fewer}
 use Rattle.versions.proofs.version.VersionOrd.cmp.Goals as goal
