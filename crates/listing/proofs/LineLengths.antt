@@ -25,8 +25,8 @@ pub count_line : (kind n : ℕ) → line_of (count kind n) ≡ number_of kind ++
 unfolding line_of listing_line bytes
 count_line kind n = simp append_assoc
 
-pub length_number : (n : ℕ) → length (number_of n) ≡ length (decimal n) + 1
-length_number n = length-append (decimal n) (32 ∷ [])
+pub length_number : (n after : ℕ) → length (decimal n ++ (after ∷ [])) ≡ length (decimal n) + 1
+length_number n after = length-append (decimal n) (after ∷ [])
 
 pub length_value : (kind : ℕ) (payload : List ℕ) → length (line_of (value kind payload)) ≡ length (number_of kind) + length (number_of (length payload)) + length payload + 1
 length_value kind payload = rw value_line (omega (arith, length-append (number_of kind) (number_of (length payload) ++ (payload ++ (10 ∷ []))), length-append (number_of (length payload)) (payload ++ (10 ∷ [])), length-append payload (10 ∷ [])))

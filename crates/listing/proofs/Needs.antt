@@ -76,14 +76,14 @@ unfolding limit
 value_small kind payload k s = go (ltb (length payload) 10) refl
   where
     line : length (line_of (value kind payload)) ≤ 8 + length (decimal (length payload)) + length payload
-    line = omega (arith, length_value kind payload, length_number kind, length_number (length payload), decimal-short 4 kind (omega arith))
+    line = omega (arith, length_value kind payload, length_number kind 32, length_number (length payload) 32, decimal-short 4 kind (omega arith))
 
     go : (t : Bool) → ltb (length payload) 10 ≡ t → length (line_of (value kind payload)) ≤ 2 * (6 + length payload)
     go true e = omega (arith, line, length-small (length payload) (ltb-true (length payload) 10 e))
     go false e = omega (arith, line, ltb-false (length payload) 10 e, decimal-short 9 (length payload) (omega arith))
 
 count_small : (kind n : ℕ) → kind < 65536 → n < 4294967296 → length (line_of (count kind n)) ≤ 20
-count_small kind n k s = omega (arith, length_count kind n, length_number kind, length_number 4, decimal-short 4 kind (omega arith), length-small 4 (omega arith), decimal-short 9 n (omega arith))
+count_small kind n k s = omega (arith, length_count kind n, length_number kind 32, length_number 4 32, decimal-short 4 kind (omega arith), length-small 4 (omega arith), decimal-short 9 n (omega arith))
 
 -- a line and what comes after its record
 record Short (bs : List ℕ) (r : First) : Type 0 where

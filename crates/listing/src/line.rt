@@ -15,15 +15,15 @@ const LF: u8 = 10;
 // A list's payload: its count in four bytes.
 const COUNT_SIZE: u64 = 4;
 
-// A number, and a blank after it.
+// A number, and this byte after it.
 #[tactic(auto, using(crate::proofs::LineLengths::line_lengths))]
-fn push_number<S: Sink>(sink: &mut S, n: u64)
-    requires { length (decimal n ++ BLANK ∷ []) ≤ S.room sink.old }
-    ensures taken { S.Takes sink.old (decimal n ++ BLANK ∷ []) sink.new }
-    ensures left { S.room sink.new + length (decimal n ++ BLANK ∷ []) ≡ S.room sink.old }
+fn push_number<S: Sink>(sink: &mut S, n: u64, after: u8)
+    requires { length (decimal n ++ after ∷ []) ≤ S.room sink.old }
+    ensures taken { S.Takes sink.old (decimal n ++ after ∷ []) sink.new }
+    ensures left { S.room sink.new + length (decimal n ++ after ∷ []) ≡ S.room sink.old }
 {
     sink.push_decimal(n);
-    sink.push(BLANK);
+    sink.push(after);
 }
 
 // The line of a string or an argument: its payload shows as it is.
@@ -33,8 +33,8 @@ fn push_value<S: Sink>(sink: &mut S, kind: u64, payload: &[u8])
     ensures taken { S.Takes sink.old (line_of (value kind payload.now)) sink.new }
     ensures left { S.room sink.new + length (line_of (value kind payload.now)) ≡ S.room sink.old }
 {
-    push_number(sink, kind);
-    push_number(sink, payload.len() as u64);
+    push_number(sink, kind, BLANK);
+    push_number(sink, payload.len() as u64, BLANK);
     sink.push_bytes(payload);
     sink.push(LF);
 }
@@ -46,8 +46,8 @@ fn push_count<S: Sink>(sink: &mut S, kind: u64, n: u32)
     ensures taken { S.Takes sink.old (line_of (count kind n)) sink.new }
     ensures left { S.room sink.new + length (line_of (count kind n)) ≡ S.room sink.old }
 {
-    push_number(sink, kind);
-    push_number(sink, COUNT_SIZE);
+    push_number(sink, kind, BLANK);
+    push_number(sink, COUNT_SIZE, BLANK);
     sink.push_decimal(n as u64);
     sink.push(LF);
 }
