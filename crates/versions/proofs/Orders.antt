@@ -13,11 +13,9 @@ use Rattle.rules.specs.Versions.{value, compare_numbers, compare_lists, compare_
 use Rattle.rules.specs.Versions as Rules
 use Rattle.rules.proofs.VersionsLaws.{Stand, less, even, more, stand, numbers-less, numbers_more, numbers-same}
 use Rattle.rules.proofs.DigitsLaws.{Digits, bare, fewer_digits, as-many-digits}
-use Rattle.versions.specs.contracts.runs.RunOrd
-use Rattle.versions.specs.declared.runs.Run.{Run}
-use Rattle.versions.specs.declared.runs.Run.TheVariants.{Letters, Digits as Number_run}
+use Rattle.versions.specs.contracts.number.NumberOrd
+use Rattle.versions.specs.declared.number.Number.{Number}
 use Rattle.versions.specs.Told.{told}
-use Rattle.versions.specs.Views.{told_run}
 
 numbers_told : (m n : ℕ) → nat_cmp m n ≡ told (compare_numbers m n)
 numbers_told m n = go (stand m n)
@@ -63,10 +61,11 @@ digits_told x y d e p q = go (stand (length x) (length y))
     go (even h) = rw (numbers_told (length x) (length y), numbers-same (length x) (length y) h) (bytes_told x y ∙ sym (ap told (rw (bare-same x p, bare-same y q) at (as-many-digits x y d e (omega (arith, l, m))))))
     go (more h) = rw (numbers_told (length x) (length y), numbers_more (length x) (length y) h, numbers_more (value 0 x) (value 0 y) (fewer_digits y x e d (omega (arith, l, m))))
 
--- two runs
-pub runs_told : (x y : Run) → (RunOrd.TheImpl.ghosts).cmp x y ≡ told (compare_run (told_run x) (told_run y))
+-- two runs of one kind
+pub letters_told : (x y : List ℕ) → slice_cmp nat_cmp x y ≡ told (compare_run (Rules.letters x) (Rules.letters y))
 unfolding compare_run
-runs_told (Letters x) (Letters y) = bytes_told x.now y.now
-runs_told (Letters x) (Number_run n) = refl
-runs_told (Number_run m) (Letters y) = refl
-runs_told (Number_run m) (Number_run n) = rw (m.counted, n.counted) (digits_told m.digits.now n.digits.now m.plain n.plain m.bare n.bare)
+letters_told x y = bytes_told x y
+
+pub numbers-told : (m n : Number) → (NumberOrd.TheImpl.ghosts).cmp m n ≡ told (compare_run (Rules.number (value 0 m.digits.now)) (Rules.number (value 0 n.digits.now)))
+unfolding compare_run
+numbers-told m n = rw (m.counted, n.counted) (digits_told m.digits.now n.digits.now m.plain n.plain m.bare n.bare)

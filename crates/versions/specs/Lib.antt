@@ -1,6 +1,5 @@
 pub mod Told
 pub mod Kinds
-pub mod Views
 pub mod Operators
 pub mod Orders
 pub mod Total
