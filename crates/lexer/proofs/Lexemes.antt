@@ -312,22 +312,22 @@ unfolding is_plain
 other-byte b k e f g = sym (le-ltb (class_number (class b)) 3 (omega (arith, e, above_plain k f g)))
 
 -- by the classes that are none of these
-pub quiet : (k : ByteClass) → (3 ≤ number_of k → 7 < number_of k) → (k ≡ Backslash → ⊥) → (k ≡ LineEnd → ⊥) → (k ≡ Dollar → ⊥) → (k ≡ Hash → ⊥)
+pub quiet : (k : ByteClass) → (k ≡ Blank → ⊥) → (k ≡ Equals → ⊥) → (k ≡ Colon → ⊥) → (k ≡ Single → ⊥) → (k ≡ Double → ⊥) → (k ≡ Backslash → ⊥) → (k ≡ LineEnd → ⊥) → (k ≡ Dollar → ⊥) → (k ≡ Hash → ⊥)
     → 3 ≤ number_of k → number_of k < 12 → ⊥
-quiet Other s f g h i l m = omega arith
-quiet Identifier s f g h i l m = omega arith
-quiet Blank s f g h i l m = omega arith
-quiet Equals s f g h i l m = omega arith
-quiet Colon s f g h i l m = omega arith
-quiet Single s f g h i l m = omega arith
-quiet Double s f g h i l m = omega arith
-quiet Backslash s f g h i l m = f refl
-quiet LineEnd s f g h i l m = g refl
-quiet Dollar s f g h i l m = h refl
-quiet Hash s f g h i l m = i refl
-quiet OpenBrace s f g h i l m = omega arith
-quiet CloseBrace s f g h i l m = omega arith
-quiet Past s f g h i l m = omega arith
+quiet Other a b c d e f g h i l m = omega arith
+quiet Identifier a b c d e f g h i l m = omega arith
+quiet Blank a b c d e f g h i l m = a refl
+quiet Equals a b c d e f g h i l m = b refl
+quiet Colon a b c d e f g h i l m = c refl
+quiet Single a b c d e f g h i l m = d refl
+quiet Double a b c d e f g h i l m = e refl
+quiet Backslash a b c d e f g h i l m = f refl
+quiet LineEnd a b c d e f g h i l m = g refl
+quiet Dollar a b c d e f g h i l m = h refl
+quiet Hash a b c d e f g h i l m = i refl
+quiet OpenBrace a b c d e f g h i l m = omega arith
+quiet CloseBrace a b c d e f g h i l m = omega arith
+quiet Past a b c d e f g h i l m = omega arith
 
 -- the lexeme at place i, by the class c of its first byte
 module _ (text : List ℕ) (i c : ℕ) (here : i < length text) (by_number : c ≡ class_number (class (get_or text i 0))) where

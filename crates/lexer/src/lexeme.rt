@@ -1,7 +1,6 @@
 // One piece at a place of the text (document 01, "Lexing"), by the classes of its bytes.
 // Kept: places in text and pool, and not what is left of them, since tokens and refusals tell places.
-ghost use Rattle.std.specs.Prelude.{◌≡◌, ◌+◌, ◌≤◌, ◌<◌, ℕ, Bool, length, drop, get_or, MatchOption};
-ghost use Rattle.scan.specs.Classes.{number_of};
+ghost use Rattle.std.specs.Prelude.{◌≡◌, ◌+◌, ◌≤◌, ◌<◌, ℕ, Bool, length, drop, get_or};
 ghost use Rattle.rules.specs.Bytes.{run};
 ghost use Rattle.rules.specs.Lexing.{is_identifier, comment, second, after_backslash, after_brace, after_dollar};
 ghost use Rattle.rules.specs.Numbers.{invalid_variable_char};
@@ -136,20 +135,6 @@ pub fn dollar_at(text: &[u8], i: usize) -> Result<Piece<TokenKind>, BadReference
     }
 }
 
-// The kind of the token that a byte of this class makes whatever comes after it; none for the other classes.
-fn own_kind(class: ByteClass) -> Option<TokenKind>
-    ensures { MatchOption result (3 ≤ number_of class → 7 < number_of class) (λ k. (kind_of k ≡ number_of class) × (3 ≤ number_of class) × (number_of class < 8)) }
-{
-    match class {
-        ByteClass::Blank => Some(TokenKind::Blank),
-        ByteClass::Equals => Some(TokenKind::Equals),
-        ByteClass::Colon => Some(TokenKind::Colon),
-        ByteClass::Single => Some(TokenKind::SingleQuote),
-        ByteClass::Double => Some(TokenKind::DoubleQuote),
-        _ => None,
-    }
-}
-
 // A token that is the byte at place i by itself.
 fn byte_token(kind: TokenKind, i: usize) -> Piece<TokenKind>
     requires { i < 18446744073709551615 }
@@ -163,11 +148,12 @@ pub fn lexeme_at(text: &[u8], i: usize) -> Result<Piece<TokenKind>, BadReference
     requires { i < length text.now }
     ensures { Answers text.now i (lexeme_at text.now i) result }
 {
-    let class = class_of(text[i]);
-    if let Some(kind) = own_kind(class) {
-        return Ok(byte_token(kind, i));
-    }
-    match class {
+    match class_of(text[i]) {
+        ByteClass::Blank => Ok(byte_token(TokenKind::Blank, i)),
+        ByteClass::Equals => Ok(byte_token(TokenKind::Equals, i)),
+        ByteClass::Colon => Ok(byte_token(TokenKind::Colon, i)),
+        ByteClass::Single => Ok(byte_token(TokenKind::SingleQuote, i)),
+        ByteClass::Double => Ok(byte_token(TokenKind::DoubleQuote, i)),
         ByteClass::Backslash => Ok(backslash_at(text, i)),
         ByteClass::LineEnd => {
             let next = maybe_consume_second_newline(text, i);

@@ -52,7 +52,7 @@ skip-all ts j (suc n) h all =
     skip-more ts j (omega arith) (all j (omega arith) (omega arith)) ∙ skip-all ts (j + 1) n (omega arith) (λ k p q. all k (omega arith) (omega arith)) ∙ ap (λ (k : ℕ). skip_blanks (drop k ts)) e
 
 -- blanks from j up to r, and none at r
-pub skips-by : (ts : List Token) (j r : ℕ) → j ≤ r → r ≤ length ts → ((k : ℕ) → j ≤ k → k < r → (token_at ts k).kind ≡ blank_kind)
+skips-by : (ts : List Token) (j r : ℕ) → j ≤ r → r ≤ length ts → ((k : ℕ) → j ≤ k → k < r → (token_at ts k).kind ≡ blank_kind)
     → (r < length ts → (token_at ts r).kind ≡ blank_kind → ⊥) → Skips ts j r
 unfolding skip_blanks
 skips-by ts j r on inside all other =
@@ -68,6 +68,13 @@ skips-by ts j r on inside all other =
     go : Dec (r < length ts) → skip_blanks (drop r ts) ≡ drop r ts
     go (yes h) = rw (in_front ts r h, skip_blanks) (rw (other-kind ts r blank_kind (other h)) refl)
     go (no h) = rw (none-left ts r (omega arith), skip_blanks) refl
+
+-- what was found: the first token from j on that is no blank, or none
+pub skipped : (ts : List Token) (j len : ℕ) (found : Option ℕ) → len ≡ length ts → j ≤ len
+    → MatchOption found ((k : ℕ) → j ≤ k → k < len → (token_at ts k).kind ≡ blank_kind)
+    (λ i. (j ≤ i) × (i < len) × ((token_at ts i).kind ≡ blank_kind → ⊥) × ((k : ℕ) → j ≤ k → k < i → (token_at ts k).kind ≡ blank_kind)) → Skips ts j (unwrap_or found len)
+skipped ts j len None e h all = skips-by ts j len h (omega arith) all (λ z. absurd (omega arith))
+skipped ts j len (Some i) e h (on, inside, other, all) = skips-by ts j i on (omega arith) all (λ z. other)
 
 -- what was found: the first newline from j on, or none
 pub ended : (ts : List Token) (j len : ℕ) (found : Option ℕ) → len ≡ length ts → j ≤ len

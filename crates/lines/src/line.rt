@@ -13,12 +13,9 @@ fn skip_blanks(tokens: &Table, from: usize) -> usize
     requires { from ≤ length tokens.now }
     ensures { Skips tokens.now from result }
 {
-    for i in from..tokens.len() {
-        if tokens.kind(i) != TokenKind::Blank as u32 {
-            return i;
-        }
-    }
-    tokens.len()
+    (from..tokens.len())
+        .find(|i| tokens.kind(*i) != TokenKind::Blank as u32)
+        .unwrap_or(tokens.len())
 }
 
 // The newline that ends the line of token `from`; the end of the tokens where the text ends it.
