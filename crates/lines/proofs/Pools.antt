@@ -1,6 +1,6 @@
 -- A workspace's tokens have the same kinds with each pool, so what goes by kinds alone holds with each. Assumes nothing.
 use Prim.Native.Nat.{ℕ}
-use mathlib.Core.Path.{◌≡◌, sym, ◌∙◌}
+use mathlib.Core.Path.{sym, ◌∙◌}
 use mathlib.Core.List.{List}
 use Rattle.rules.specs.Tokens.{Token}
 use Rattle.rules.specs.Lines.{read_line}

@@ -236,6 +236,45 @@ module _ (ts line : List Token) (end : ℕ) (l : line ≡ take end ts) (inside :
             ∙ rw (front, after_key) (rw (other-kind line mark colon_kind (λ z. omega arith)) (rw (a_kind line mark equals_kind a) refl))
             ∙ ap (read_assignment (token_at ts key) (ending_at ts end)) (F.is ∙ ap (drop from) l)
 
+-- what stands after the key, told of all tokens of the same kinds
+module _ (ts line : List Token) (end : ℕ) (l : line ≡ take end ts) (inside : end ≤ length ts) (key : ℕ) (q : key < end) (t : (token_at ts key).kind ≡ text_kind)
+    (mark : ℕ) (S : Skips line (key + 1) mark) (us : List Token) (A : SameKinds us ts) where
+  -- the line of those tokens, where it ends, its key, and the blanks after that
+  ends : end ≤ length us
+  ends = inside-alike ts line end l inside us A
+
+  keyed : (token_at us key).kind ≡ text_kind
+  keyed = A.same_kind key ∙ t
+
+  blanks : Skips (take end us) (key + 1) mark
+  blanks = skips-alike ts line end l inside us A (key + 1) mark S
+
+  abbrev started : LineStart → Type 0
+  started r = Starts us end key (after_key (token_at us key) (ending_at us end) (skip_blanks (drop (key + 1) (take end us)))) r
+
+  pub newline-alike : end ≤ mark → end < length ts → started (WrongAfter end)
+  newline-alike h m = after-newline us (take end us) end refl ends key q keyed mark blanks h (omega (arith, m, A.same_length))
+
+  pub end-alike : end ≤ mark → length ts ≤ end → started Ended
+  end-alike h m = after-end us (take end us) end refl ends key q keyed mark blanks h (omega (arith, m, A.same_length))
+
+  module _ (h : mark < end) where
+    pub wrong-alike : ((token_at line mark).kind ≡ colon_kind → ⊥) → ((token_at line mark).kind ≡ equals_kind → ⊥) → started (WrongAfter mark)
+    wrong-alike a b =
+        (omega (arith, h, ends), after-wrong us (take end us) end refl ends key q keyed mark blanks h (other-alike ts line end l inside us A mark colon_kind a) (other-alike ts line end l inside us A mark equals_kind b))
+
+    module _ (from : ℕ) (F : Skips line (mark + 1) from) where
+      value_blanks : Skips (take end us) (mark + 1) from
+      value_blanks = skips-alike ts line end l inside us A (mark + 1) from F
+
+      pub colon-alike : (token_at line mark).kind ≡ colon_kind → started (Gives key from)
+      colon-alike e =
+          (stands us (take end us) end refl ends key q keyed mark blanks h from value_blanks, after-colon us (take end us) end refl ends key q keyed mark blanks h from value_blanks (kind-alike ts line end l inside us A mark colon_kind e))
+
+      pub equals-alike : (token_at line mark).kind ≡ equals_kind → started (Assigns key from)
+      equals-alike e =
+          (stands us (take end us) end refl ends key q keyed mark blanks h from value_blanks, after-equals us (take end us) end refl ends key q keyed mark blanks h from value_blanks (kind-alike ts line end l inside us A mark equals_kind e))
+
 -- the end of a string value
 drop-last : (ts : List Token) (t : Token) → drop_last_blank (ts ++ t ∷ []) ≡ pick (is_a blank_kind t) ts (ts ++ t ∷ [])
 unfolding drop_last_blank pick
