@@ -1,21 +1,24 @@
 -- Laws of a line's start and end. Assumes nothing.
 use Prim.Native.Nat.{ℕ, zero, suc, ◌+◌, ◌-◌, ◌≤◌, ◌<◌}
-use mathlib.Core.Path.{◌≡◌, refl, sym, ◌∙◌, ap}
+use mathlib.Core.Path.{◌≡◌, refl, sym, ◌∙◌, ap, subst}
 use mathlib.Core.Bool.{Bool, true, false}
 use mathlib.Core.List.{List, [], ◌∷◌, ◌++◌, append-nil}
 use native.Mathlib.Numerals.{add-one}
 use native.Mathlib.Nat.{add-zero}
 use native.Mathlib.Omega.{arith}
 use native.Mathlib.Decide.{dec_lt}
-use lib.ListN.{length, take, drop, drop_of_length-le, take-append-drop, get_or-eq_default}
+use lib.Dec.{eqb}
+use lib.ListN.{length, take, drop, length-drop, drop_of_length-le, take-append-drop, get_or-eq_default}
 use lib.Seq.{drop-append-le, drop-cons, length-take-le, take-suc, get_or-drop, get_or-take}
 use borrow.Author.Tests.{lt-ltb, le-ltb, eq-eqb, ne_eqb}
+use Rattle.std.proofs.lemmas.Bool.{eqb-true}
 use Rattle.std.specs.Prelude.{Option, Some, None, MatchOption, unwrap_or}
 use Rattle.rules.specs.Bytes.{pick}
 use Rattle.rules.specs.Tokens.{Token, no_name, is_a, text_kind, blank_kind, equals_kind, colon_kind, new_line_kind}
 use Rattle.rules.specs.Numbers.{Result, unexpected_at_start, unexpected_after_key, refused}
 use Rattle.rules.specs.Lines.{Ending, newline, end_of_text, Item, lines, skip_blanks, drop_last_blank, trimmed, read_line, read_assignment, read_field, nothing_after_key, after_key, after_blanks}
 use Rattle.rules.proofs.LinesLaws.{Within, lines-newline, lines_end}
+use Rattle.rules.proofs.BytesLaws.{false-true}
 use Rattle.tokens.specs.Entries.{token_at}
 use Rattle.workspace.specs.Map.{between}
 use Rattle.lines.specs.declared.line.LineStart.{LineStart}
@@ -68,6 +71,26 @@ skips-by ts j r on inside all other =
     go : Dec (r < length ts) → skip_blanks (drop r ts) ≡ drop r ts
     go (yes h) = rw (in_front ts r h, skip_blanks) (rw (other-kind ts r blank_kind (other h)) refl)
     go (no h) = rw (none-left ts r (omega arith), skip_blanks) refl
+
+-- from each token on, blanks end somewhere
+blanks-end : (ts : List Token) (n j : ℕ) → j + n ≡ length ts → (r : ℕ) × Skips ts j r
+blanks-end ts zero j e = (j, skips-by ts j j (omega arith) (omega arith) (λ k p q. absurd (omega arith)) (λ h. absurd (omega arith)))
+blanks-end ts (suc n) j e = go (eqb (token_at ts j).kind blank_kind) refl (blanks-end ts n (j + 1) (omega arith))
+  where
+    go : (b : Bool) → eqb (token_at ts j).kind blank_kind ≡ b → (r : ℕ) × Skips ts (j + 1) r → (r : ℕ) × Skips ts j r
+    go true z s = (s.0, skips-by ts j s.0 (omega (arith, s.1.on)) s.1.inside (λ k p q. one k (eqb-true (token_at ts j).kind blank_kind z) (s.1.blank k) q p (dec_lt j k)) s.1.other)
+      where
+        one : (k : ℕ) → (token_at ts j).kind ≡ blank_kind → (j + 1 ≤ k → k < s.0 → (token_at ts k).kind ≡ blank_kind) → k < s.0 → j ≤ k → Dec (j < k) → (token_at ts k).kind ≡ blank_kind
+        one k here later q p (yes l) = later (omega arith) q
+        one k here later q p (no l) = let d : k ≡ j = omega arith in rw d here
+    go false z s = (j, skips-by ts j j (omega arith) (omega arith) (λ k p q. absurd (omega arith)) (λ h q. false-true z (eq-eqb (token_at ts j).kind blank_kind q)))
+
+-- so that the rule's words are enough: from r on stands what skipping leaves
+pub skips-of : (ts : List Token) (j r : ℕ) → j ≤ r → r ≤ length ts → skip_blanks (drop j ts) ≡ drop r ts → Skips ts j r
+skips-of ts j r on inside is =
+    let x = blanks-end ts (length ts - j) j (omega arith) in
+    let l : length (drop r ts) ≡ length (drop x.0 ts) = ap length (sym is ∙ x.1.is) in
+    subst (Skips ts j) (omega (arith, l, length-drop r ts, length-drop x.0 ts, inside, x.1.inside)) x.1
 
 -- what was found: the first token from j on that is no blank, or none
 pub skipped : (ts : List Token) (j len : ℕ) (found : Option ℕ) → len ≡ length ts → j ≤ len

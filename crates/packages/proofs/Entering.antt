@@ -10,6 +10,8 @@ use Rattle.rules.specs.Variables.{limit}
 use Rattle.rules.specs.Packages as Rules
 use Rattle.rules.specs.Packages.{First, nothing, malformed, item, first_item, items, malformed_at, after, items_of, item_records, skip}
 use Rattle.rules.proofs.PackagesLaws.{cut_of, items-nothing, items-malformed, items-item, item-need}
+use Rattle.packages.specs.declared.field.Field.{Field}
+use Rattle.packages.specs.Numbers.{malformed_from}
 use Rattle.packages.specs.Entries.{Entry, whole, broken, entries_within, entries_of, items_in, records_in, both_records, broken_from}
 
 shorter : (value : List ℕ) (i : Rules.Item) (rest : List ℕ) → first_item value ≡ item i rest → length rest < length value
@@ -90,6 +92,12 @@ pub broken-on : (before : ℕ) (i : Rules.Item) (r : Rules.Items) → broken_fro
 unfolding after
 broken-on before i (items is) = refl
 broken-on before i (malformed_at k) = ap (λ (n : ℕ). Err n) (omega arith)
+
+-- the same with its field
+pub malformed-on : (field : Field) (before : ℕ) (i : Rules.Item) (r : Rules.Items) → malformed_from field before (after i r) ≡ malformed_from field (before + 1) r
+unfolding after
+malformed-on field before i (items is) = refl
+malformed-on field before i (malformed_at k) = ap (λ (n : ℕ). Err (record { field = field; index = n })) (omega arith)
 
 -- at most 21 bytes for each byte of the value
 pub records-few : (field : ℕ) (value : List ℕ) → length (records_in field (entries_of value)) ≤ 21 * length value
