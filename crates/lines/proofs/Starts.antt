@@ -10,8 +10,7 @@ use native.Mathlib.Decide.{dec_lt}
 use lib.Dec.{eqb}
 use lib.ListN.{length, take, drop, length-drop, drop_of_length-le, take-append-drop, get_or-eq_default}
 use lib.Seq.{drop-append-le, drop-cons, length-take-le, take-suc, get_or-drop, get_or-take}
-use borrow.Author.Tests.{lt-ltb, le-ltb, eq-eqb, ne_eqb}
-use Rattle.std.proofs.lemmas.Bool.{eqb-true}
+use borrow.Author.Tests.{eqb-true, lt-ltb, le-ltb, eq-eqb, ne_eqb}
 use Rattle.std.specs.Prelude.{Option, Some, None, MatchOption, unwrap_or}
 use Rattle.rules.specs.Bytes.{pick}
 use Rattle.rules.specs.Tokens.{Token, no_name, is_a, text_kind, blank_kind, equals_kind, colon_kind, new_line_kind}
