@@ -77,14 +77,18 @@ blanks-end ts zero j e = (j, skips-by ts j j (omega arith) (omega arith) (λ k p
 blanks-end ts (suc n) j e = go (eqb (token_at ts j).kind blank_kind) refl (blanks-end ts n (j + 1) (omega arith))
   where
     go : (b : Bool) → eqb (token_at ts j).kind blank_kind ≡ b → (r : ℕ) × Skips ts (j + 1) r → (r : ℕ) × Skips ts j r
-    go true z s = (s.0, skips-by ts j s.0 (omega (arith, s.1.on)) s.1.inside (λ k p q. one k (eqb-true (token_at ts j).kind blank_kind z) (s.1.blank k) q p (dec_lt j k)) s.1.other)
-      where
-        one : (k : ℕ) → (token_at ts j).kind ≡ blank_kind → (j + 1 ≤ k → k < s.0 → (token_at ts k).kind ≡ blank_kind) → k < s.0 → j ≤ k → Dec (j < k) → (token_at ts k).kind ≡ blank_kind
-        one k here later q p (yes l) = later (omega arith) q
-        one k here later q p (no l) = let d : k ≡ j = omega arith in rw d here
+    go true z s = (
+      s.0,
+      skips-by ts j s.0 (omega (arith, s.1.on)) s.1.inside
+          (λ k p q. elim (dec_lt j k) [
+            | yes l ↦ s.1.blank k (omega arith) q
+            | no l ↦ let d : k ≡ j = omega arith in rw d (eqb-true (token_at ts j).kind blank_kind z)
+          ])
+          s.1.other,
+    )
     go false z s = (j, skips-by ts j j (omega arith) (omega arith) (λ k p q. absurd (omega arith)) (λ h q. false-true z (eq-eqb (token_at ts j).kind blank_kind q)))
 
--- so that the rule's words are enough: from r on stands what skipping leaves
+-- so that the rule's words are enough for a caller: from r on stands what skipping leaves
 pub skips-of : (ts : List Token) (j r : ℕ) → j ≤ r → r ≤ length ts → skip_blanks (drop j ts) ≡ drop r ts → Skips ts j r
 skips-of ts j r on inside is =
     let x = blanks-end ts (length ts - j) j (omega arith) in
